@@ -1,0 +1,2 @@
+-- `Numeral`: mixed-radix numerals.
+pub mod Numeral

@@ -1,0 +1,9 @@
+// An independent implementation of the card, written from the papers alone, one file a layer.
+pub mod message;
+
+/// Why an input is refused: the number of the refusal table and the place it names.
+#[derive(Clone, Copy, Debug, PartialEq, Eq)]
+pub struct Refusal {
+    pub number: u32,
+    pub place: u32,
+}
