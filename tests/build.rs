@@ -11,6 +11,9 @@ fn main() {
     println!("cargo:rustc-link-search=native={}", folder.display());
     println!("cargo:rustc-link-lib=static=wsprcard");
     if !archive.exists() {
-        println!("cargo:warning={} is missing: run `rt staticlib wsprcard` first", archive.display());
+        println!(
+            "cargo:warning={} is missing: run `rt staticlib wsprcard` first",
+            archive.display()
+        );
     }
 }

@@ -41,13 +41,21 @@ pub fn pack(callsign: &[u8], locator: &[u8], power: u32) -> Word {
 
 pub fn unpack(word: u64, callsign: &mut [u8], locator: &mut [u8]) -> Message {
     unsafe {
-        wspr_unpack(word, callsign.as_mut_ptr(), callsign.len(), locator.as_mut_ptr(), locator.len())
+        wspr_unpack(
+            word,
+            callsign.as_mut_ptr(),
+            callsign.len(),
+            locator.as_mut_ptr(),
+            locator.len(),
+        )
     }
 }
 
 /// `pack` from buffers that show whether anything was written.
 pub fn pack_lent(callsign: &mut Lent, locator: &mut Lent, power: u32) -> Word {
-    unsafe { wspr_pack(callsign.pointer(), callsign.len(), locator.pointer(), locator.len(), power) }
+    unsafe {
+        wspr_pack(callsign.pointer(), callsign.len(), locator.pointer(), locator.len(), power)
+    }
 }
 
 /// `unpack` into buffers that show what was written.

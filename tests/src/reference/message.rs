@@ -60,9 +60,7 @@ pub fn unpack(word: u64, callsign_len: usize, locator_len: usize) -> Result<Mess
     }
     match POWERS.iter().find(|&&power| power + 64 == low) {
         None => Err(Refusal { number: 6, place: 0 }),
-        Some(&power) => {
-            Ok(Message { callsign: callsign_of(n), locator: locator_of(m1), power })
-        }
+        Some(&power) => Ok(Message { callsign: callsign_of(n), locator: locator_of(m1), power }),
     }
 }
 
@@ -115,12 +113,7 @@ pub fn locator_number(locator: &[u8]) -> u64 {
 fn locator_of(m1: u64) -> [u8; LOCATOR_LEN] {
     let ac = 179 - m1 / 180;
     let bd = m1 % 180;
-    [
-        b'A' + (ac / 10) as u8,
-        b'A' + (bd / 10) as u8,
-        b'0' + (ac % 10) as u8,
-        b'0' + (bd % 10) as u8,
-    ]
+    [b'A' + (ac / 10) as u8, b'A' + (bd / 10) as u8, b'0' + (ac % 10) as u8, b'0' + (bd % 10) as u8]
 }
 
 /// Digits count 0 to 9, letters 10 to 35, space 36.

@@ -1,0 +1,56 @@
+-- Laws of `cond` and of tests, for definitions that test and refuse in turn and answer last.
+use mathlib.Core.Path.{_≡_, refl, sym, _∙_}
+use Prim.Native.Nat.{ℕ, _≤_, _<_}
+use native.Mathlib.Omega.{arith}
+use mathlib.Core.Bool.{Bool, true, false, cond, not, _&&_, _||_}
+use lib.Dec.{eqb, ltb}
+use borrow.Author.Tests.{ltb-true, ltb-false, eqb-true, eqb-false}
+
+-- ---- Tests
+
+false-is-not-true : false ≡ true → ⊥
+false-is-not-true e = let z : _≡_ {A = ℕ} 0 1 = cc in omega arith
+
+pub and-true : (a b : Bool) → (a && b) ≡ true → (a ≡ true) × (b ≡ true)
+and-true true b e = (refl, e)
+and-true false b e = absurd (false-is-not-true e)
+
+pub or-false : (a b : Bool) → (a || b) ≡ false → (a ≡ false) × (b ≡ false)
+or-false true b e = absurd (false-is-not-true (sym e))
+or-false false b e = (refl, e)
+
+pub not-false : (t : Bool) → not t ≡ false → t ≡ true
+not-false true e = refl
+not-false false e = absurd (false-is-not-true (sym e))
+
+-- ---- Choices
+
+module _ {A : Type 0} (t : Bool) {x y z : A} where
+  -- A choice that isn't its first case is its second, and the test failed.
+  pub cond-passed : cond t x y ≡ z → (x ≡ z → ⊥) → (t ≡ false) × (y ≡ z)
+  cond-passed e other = go t e
+    where
+      go : (t : Bool) → cond t x y ≡ z → (t ≡ false) × (y ≡ z)
+      go true e = absurd (other e)
+      go false e = (refl, e)
+
+  -- A choice that isn't its second case is its first, and the test held.
+  pub cond-held : cond t x y ≡ z → (y ≡ z → ⊥) → (t ≡ true) × (x ≡ z)
+  cond-held e other = go t e
+    where
+      go : (t : Bool) → cond t x y ≡ z → (t ≡ true) × (x ≡ z)
+      go true e = (refl, e)
+      go false e = absurd (other e)
+
+-- ---- Two ways to go on
+
+pub by-test : {A : Type 0} (t : Bool) → (t ≡ true → A) → (t ≡ false → A) → A
+by-test true f g = f refl
+by-test false f g = g refl
+
+module _ {A : Type 0} (m n : ℕ) where
+  pub below-or-not : (m < n → A) → (n ≤ m → A) → A
+  below-or-not f g = by-test (ltb m n) (λ e. f (ltb-true m n e)) (λ e. g (ltb-false m n e))
+
+  pub equal-or-not : (m ≡ n → A) → ((m ≡ n → ⊥) → A) → A
+  equal-or-not f g = by-test (eqb m n) (λ e. f (eqb-true m n e)) (λ e. g (eqb-false m n e))

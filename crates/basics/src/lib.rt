@@ -1,0 +1,1 @@
+// Laws of tests, choices and tables that the proofs of every layer cite (proofs/). No code.

@@ -1,0 +1,233 @@
+-- Laws of characters: a value by the byte's class and back, legal characters, and digits and characters inverse to each other.
+use mathlib.Core.Path.{_≡_, refl, sym, ap, _∙_, subst}
+use mathlib.Core.Logic.{_↔_}
+use Prim.Native.Nat.{ℕ, zero, suc, _+_, _-_, _≤_, _<_}
+use native.Mathlib.Nat.{add-suc, suc-add, add-zero, add-sub-of-le, add-sub-cancel-left}
+use native.Mathlib.Omega.{arith}
+use mathlib.Core.Bool.{Bool, true, false, cond, _&&_}
+use mathlib.Core.List.{List, [], _∷_, _++_}
+use lib.Dec.{T, eqb, leb, ltb, leb→le}
+use lib.ListN.{length, getD, List·getD-map}
+use borrow.Author.Tests.{le-leb, lt-leb, lt-ltb, le-ltb, leb-true, leb-false, ltb-true, ltb-false, eq-eqb, ne-eqb, eqb-true}
+use Rattle.radix.specs.Numeral.{Digits}
+use Rattle.basics.proofs.Tables.{every-at}
+use Rattle.basics.proofs.Choice.{and-true, cond-passed, cond-held, by-test, below-or-not, equal-or-not}
+use Rattle.message.specs.Character.{between, value, character, CharacterSet, callsignSets, locatorSets, setAt, legalAt, firstBad, digitsFrom, charactersFrom, DigitsAt}
+
+-- ---- A byte's class
+
+between-true : (low high b : ℕ) → low ≤ b → b ≤ high → between low high b ≡ true
+between-true low high b h k = rw (le-leb low b h, le-leb b high k)
+
+between-below : (low high b : ℕ) → b < low → between low high b ≡ false
+between-below low high b h = rw (lt-leb low b h)
+
+between-above : (low high b : ℕ) → low ≤ b → high < b → between low high b ≡ false
+between-above low high b h k = rw (le-leb low b h, lt-leb b high k)
+
+pub value-digit : {b : ℕ} → 48 ≤ b → b ≤ 57 → value b ≡ b - 48
+unfolding value
+value-digit {b} h k = rw (between-true 48 57 b h k)
+
+pub value-letter : {b : ℕ} → 65 ≤ b → b ≤ 90 → value b ≡ b - 55
+unfolding value
+value-letter {b} h k = rw (between-above 48 57 b (omega arith) (omega arith), between-true 65 90 b h k)
+
+pub value-space : value 32 ≡ 36
+unfolding value
+value-space = refl
+
+
+-- A byte between the classes is no character.
+pub value-below-digits : {b : ℕ} → b < 48 → (b ≡ 32 → ⊥) → value b ≡ 37
+unfolding value
+value-below-digits {b} h k = rw (between-below 48 57 b h, between-below 65 90 b (omega arith), ne-eqb b 32 k)
+
+pub value-below-letters : {b : ℕ} → 58 ≤ b → b < 65 → value b ≡ 37
+unfolding value
+value-below-letters {b} h k =
+    rw (between-above 48 57 b (omega arith) (omega arith), between-below 65 90 b k, ne-eqb b 32 (λ e. omega arith))
+
+pub value-above-letters : {b : ℕ} → 91 ≤ b → value b ≡ 37
+unfolding value
+value-above-letters {b} h =
+    rw (between-above 48 57 b (omega arith) (omega arith), between-above 65 90 b (omega arith) (omega arith), ne-eqb b 32 (λ e. omega arith))
+
+pub character-digit : {v : ℕ} → v < 10 → character v ≡ v + 48
+unfolding character
+character-digit {v} h = rw (lt-ltb v 10 h)
+
+pub character-letter : {v : ℕ} → 10 ≤ v → v < 36 → character v ≡ v + 55
+unfolding character
+character-letter {v} h k = rw (le-ltb v 10 h, lt-ltb v 36 k)
+
+pub character-space : {v : ℕ} → 36 ≤ v → character v ≡ 32
+unfolding character
+character-space {v} h = rw (le-ltb v 10 (omega arith), le-ltb v 36 h)
+
+-- ---- A value and its character
+
+pub value-character : {v : ℕ} → v < 37 → value (character v) ≡ v
+value-character {v} h =
+    below-or-not v 10 (λ d. rw (character-digit d) (value-digit (omega arith) (omega arith) ∙ omega arith))
+    (λ d. below-or-not v 36 (λ l. rw (character-letter d l) (value-letter (omega arith) (omega arith) ∙ omega arith))
+    (λ l. rw (character-space l) (value-space ∙ omega arith)))
+
+pub character-value : (b : ℕ) → value b < 37 → character (value b) ≡ b
+character-value b h =
+    below-or-not b 48
+    (λ d. equal-or-not b 32 (λ e. rw (e, value-space) (character-space (omega arith)))
+    (λ n. absurd (omega (arith, value-below-digits d n))))
+    (λ d. below-or-not b 58 (λ e. rw (value-digit d (omega arith)) (character-digit (omega arith) ∙ omega arith))
+    (λ e. below-or-not b 65 (λ l. absurd (omega (arith, value-below-letters e l)))
+    (λ l. below-or-not b 91 (λ u. rw (value-letter l (omega arith)) (character-letter (omega arith) (omega arith) ∙ omega arith))
+    (λ u. absurd (omega (arith, value-above-letters u))))))
+
+-- ---- The sets
+
+-- The table of the sets, place by place.
+abbrev sets : List CharacterSet
+unfolding callsignSets locatorSets
+sets = callsignSets ++ locatorSets
+
+abbrev none : CharacterSet
+none = record { lowest = 0; size = 0 }
+
+pub lowest-table : (place : ℕ) → setAt place .lowest ≡ getD (0 ∷ 0 ∷ 0 ∷ 10 ∷ 10 ∷ 10 ∷ 10 ∷ 10 ∷ 0 ∷ 0 ∷ []) place 0
+unfolding setAt callsignSets locatorSets
+lowest-table place = sym (List·getD-map (λ (s : CharacterSet). s .lowest) sets place none)
+
+pub size-table : (place : ℕ) → setAt place .size ≡ getD (37 ∷ 36 ∷ 10 ∷ 27 ∷ 27 ∷ 27 ∷ 18 ∷ 18 ∷ 10 ∷ 10 ∷ []) place 0
+unfolding setAt callsignSets locatorSets
+size-table place = sym (List·getD-map (λ (s : CharacterSet). s .size) sets place none)
+
+-- No set goes past the space.
+pub set-end : (place : ℕ) → setAt place .lowest + setAt place .size ≤ 37
+unfolding setAt callsignSets locatorSets
+set-end place = leb-true _ _ (every-at (λ (s : CharacterSet). leb (s .lowest + s .size) 37) sets none refl refl place)
+
+-- ---- Legal characters
+
+pub legal-from : (place b : ℕ) → setAt place .lowest ≤ value b → value b < setAt place .lowest + setAt place .size → legalAt place b ≡ true
+unfolding legalAt
+legal-from place b h k = rw (le-leb _ _ h, lt-ltb _ _ k)
+
+pub legal-lowest : (place b : ℕ) → legalAt place b ≡ true → setAt place .lowest ≤ value b
+unfolding legalAt
+legal-lowest place b e = leb-true _ _ (and-true (leb (setAt place .lowest) (value b)) _ e .0)
+
+pub legal-end : (place b : ℕ) → legalAt place b ≡ true → value b < setAt place .lowest + setAt place .size
+unfolding legalAt
+legal-end place b e = ltb-true _ _ (and-true (leb (setAt place .lowest) (value b)) _ e .1)
+
+-- Every character from a place on is legal.
+unfoldable pub AllLegal : ℕ → List ℕ → Type 0
+AllLegal place [] = Unit
+AllLegal place (b ∷ bs) = (legalAt place b ≡ true) × AllLegal (suc place) bs
+
+pub firstBad-legal : (place b : ℕ) (bs : List ℕ) → legalAt place b ≡ true → firstBad place (b ∷ bs) ≡ firstBad (suc place) bs
+unfolding firstBad
+firstBad-legal place b bs e = rw e
+
+pub firstBad-bad : (place b : ℕ) (bs : List ℕ) → legalAt place b ≡ false → firstBad place (b ∷ bs) ≡ place
+unfolding firstBad
+firstBad-bad place b bs e = rw e
+
+pub firstBad-end : (place : ℕ) (bs : List ℕ) → firstBad place bs ≤ place + length bs
+unfolding firstBad
+firstBad-end place [] = omega arith
+firstBad-end place (b ∷ bs) =
+    by-test (legalAt place b)
+    (λ e. rw e (omega (arith, firstBad-end (suc place) bs)))
+    (λ e. rw e (omega arith))
+
+-- None is bad exactly where all are legal.
+pub all-legal : (place : ℕ) (bs : List ℕ) → place + length bs ≤ firstBad place bs → AllLegal place bs
+unfolding AllLegal
+all-legal place [] h = tt
+all-legal place (b ∷ bs) h =
+    by-test (legalAt place b)
+    (λ e. (e, all-legal (suc place) bs (omega (arith, firstBad-legal place b bs e))))
+    (λ e. absurd (omega (arith, firstBad-bad place b bs e)))
+
+pub none-bad : (place : ℕ) (bs : List ℕ) → AllLegal place bs → firstBad place bs ≡ place + length bs
+unfolding firstBad AllLegal
+none-bad place [] h = omega arith
+none-bad place (b ∷ bs) h = rw (h .0) (none-bad (suc place) bs (h .1) ∙ omega arith)
+
+-- A message's first bad place is its callsign's, or else its locator's.
+pub firstBad-append : (place end : ℕ) (xs ys : List ℕ) → place + length xs ≡ end → AllLegal place xs → firstBad place (xs ++ ys) ≡ firstBad end ys
+unfolding firstBad AllLegal
+firstBad-append place end [] ys e h = ap (λ (p : ℕ). firstBad p ys) (omega arith)
+firstBad-append place end (x ∷ xs) ys e h = rw (h .0) (firstBad-append (suc place) end xs ys (omega arith) (h .1))
+
+pub firstBad-first : (place : ℕ) (xs ys : List ℕ) → firstBad place xs < place + length xs → firstBad place (xs ++ ys) ≡ firstBad place xs
+unfolding firstBad
+firstBad-first place [] ys h = absurd (omega arith)
+firstBad-first place (x ∷ xs) ys h =
+    by-test (legalAt place x)
+    (λ e. rw e (firstBad-first (suc place) xs ys (omega (arith, firstBad-legal place x xs e))))
+    (λ e. rw e refl)
+
+-- ---- Digits and characters are inverse to each other
+
+pub length-digitsFrom : (place : ℕ) (bs : List ℕ) → length (digitsFrom place bs) ≡ length bs
+unfolding digitsFrom
+length-digitsFrom place [] = refl
+length-digitsFrom place (b ∷ bs) = ap suc (length-digitsFrom (suc place) bs)
+
+pub length-charactersFrom : (place : ℕ) (ds : List ℕ) → length (charactersFrom place ds) ≡ length ds
+unfolding charactersFrom
+length-charactersFrom place [] = refl
+length-charactersFrom place (d ∷ ds) = ap suc (length-charactersFrom (suc place) ds)
+
+pub digits-of-legal : (place : ℕ) (bs : List ℕ) → AllLegal place bs → DigitsAt place (digitsFrom place bs)
+unfolding AllLegal DigitsAt digitsFrom
+digits-of-legal place [] h = tt
+digits-of-legal place (b ∷ bs) h =
+    (omega (arith, legal-lowest place b (h .0), legal-end place b (h .0)), digits-of-legal (suc place) bs (h .1))
+
+pub characters-of-digits : (place : ℕ) (bs : List ℕ) → AllLegal place bs → charactersFrom place (digitsFrom place bs) ≡ bs
+unfolding AllLegal digitsFrom charactersFrom
+characters-of-digits place [] h = refl
+characters-of-digits place (b ∷ bs) h =
+    rw (add-sub-of-le (legal-lowest place b (h .0)),
+        character-value b (omega (arith, legal-end place b (h .0), set-end place)),
+        characters-of-digits (suc place) bs (h .1))
+
+-- The value of a digit's character.
+value-at : (place d : ℕ) → d < setAt place .size → value (character (setAt place .lowest + d)) ≡ setAt place .lowest + d
+value-at place d h = value-character (omega (arith, set-end place))
+
+pub legal-of-digits : (place : ℕ) (ds : List ℕ) → DigitsAt place ds → AllLegal place (charactersFrom place ds)
+unfolding AllLegal DigitsAt charactersFrom
+legal-of-digits place [] h = tt
+legal-of-digits place (d ∷ ds) h =
+    let e = value-at place d (h .0) in
+    (legal-from place _ (omega arith) (omega arith), legal-of-digits (suc place) ds (h .1))
+
+pub digits-of-characters : (place : ℕ) (ds : List ℕ) → DigitsAt place ds → digitsFrom place (charactersFrom place ds) ≡ ds
+unfolding DigitsAt digitsFrom charactersFrom
+digits-of-characters place [] h = refl
+digits-of-characters place (d ∷ ds) h =
+    rw (value-at place d (h .0), add-sub-cancel-left (setAt place .lowest) d, digits-of-characters (suc place) ds (h .1))
+
+-- ---- Digits at places as digits in radices
+
+-- The sizes of the sets of as many places as there are digits.
+unfoldable pub sizesFrom : ℕ → List ℕ → List ℕ
+sizesFrom place [] = []
+sizesFrom place (d ∷ ds) = setAt place .size ∷ sizesFrom (suc place) ds
+
+pub digits-in-sizes : (place : ℕ) (ds : List ℕ) → DigitsAt place ds → Digits (sizesFrom place ds) ds
+unfolding Digits DigitsAt sizesFrom
+digits-in-sizes place [] h = tt
+digits-in-sizes place (d ∷ ds) h = (h .0, digits-in-sizes (suc place) ds (h .1))
+
+-- Only the count of digits matters.
+pub sizes-by-length : (place : ℕ) (ds es : List ℕ) → length ds ≡ length es → sizesFrom place ds ≡ sizesFrom place es
+unfolding sizesFrom
+sizes-by-length place [] [] h = refl
+sizes-by-length place [] (e ∷ es) h = absurd (omega arith)
+sizes-by-length place (d ∷ ds) [] h = absurd (omega arith)
+sizes-by-length place (d ∷ ds) (e ∷ es) h = ap (λ (ss : List ℕ). setAt place .size ∷ ss) (sizes-by-length (suc place) ds es (omega arith))

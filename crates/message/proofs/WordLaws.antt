@@ -1,0 +1,187 @@
+-- Laws of the word: the callsign's and the locator's numbers and their characters are inverse to each other, and the word's parts
+-- are those that it was made from.
+use mathlib.Core.Path.{_≡_, refl, sym, ap, _∙_, subst}
+use Prim.Native.Nat.{ℕ, suc, _+_, _-_, _*_, _/_, _%_, _^_, _≤_, _<_}
+use native.Mathlib.Omega.{arith}
+use mathlib.Core.List.{List, [], _∷_}
+use lib.ListN.{length, getD}
+use Rattle.radix.specs.Numeral.{Digits, Positive, count, numberFrom, numberOf, digitsOf}
+use Rattle.radix.proofs.Laws.{number-below, digits-in-range, digitsOf-numberOf, numberOf-digitsOf}
+use Rattle.message.specs.Character.{setAt, callsignSets, locatorSets, DigitsAt, digitsFrom, charactersFrom}
+use Rattle.message.specs.Word.{callsignRadices, callsignNumber, locatorNumberOf, locatorNumber, lowerNumber, wordFrom, callsignPart, locatorPart, powerPart, locatorRadices, locatorValues, callsignAt, locatorAt}
+use Rattle.message.proofs.CharacterLaws.{AllLegal, sizesFrom, digits-of-legal, characters-of-digits, legal-of-digits, digits-of-characters, digits-in-sizes, sizes-by-length, length-digitsFrom, length-charactersFrom}
+
+-- ---- The callsign's number
+
+pub callsign-positive : Positive callsignRadices
+unfolding Positive callsignRadices
+callsign-positive = omega arith
+
+pub callsign-count : count callsignRadices ≡ 262_177_560
+unfolding count callsignRadices
+callsign-count = refl
+
+pub callsign-digits : (callsign : List ℕ) → length callsign ≡ 6 → AllLegal 0 callsign → Digits callsignRadices (digitsFrom 0 callsign)
+unfolding sizesFrom setAt callsignSets locatorSets callsignRadices
+callsign-digits callsign six legal =
+    let ds = digitsFrom 0 callsign in
+    subst (λ (rs : List ℕ). Digits rs ds)
+    (sizes-by-length 0 ds (0 ∷ 0 ∷ 0 ∷ 0 ∷ 0 ∷ 0 ∷ []) (length-digitsFrom 0 callsign ∙ six))
+    (digits-in-sizes 0 ds (digits-of-legal 0 callsign legal))
+
+pub callsignNumber-below : (callsign : List ℕ) → length callsign ≡ 6 → AllLegal 0 callsign → callsignNumber callsign < 262_177_560
+unfolding callsignNumber
+callsignNumber-below callsign six legal =
+    subst (λ (n : ℕ). callsignNumber callsign < n) callsign-count (number-below callsignRadices _ (callsign-digits callsign six legal))
+
+pub callsignAt-callsignNumber : (callsign : List ℕ) → length callsign ≡ 6 → AllLegal 0 callsign → callsignAt (callsignNumber callsign) ≡ callsign
+unfolding callsignAt callsignNumber
+callsignAt-callsignNumber callsign six legal =
+    rw (digitsOf-numberOf callsignRadices (digitsFrom 0 callsign) (callsign-digits callsign six legal)) (characters-of-digits 0 callsign legal)
+
+-- The digits of a number are in their places' sets.
+pub callsign-digits-at : (n : ℕ) → DigitsAt 0 (digitsOf callsignRadices n)
+unfolding Digits DigitsAt digitsOf setAt callsignSets locatorSets callsignRadices
+callsign-digits-at n = digits-in-range callsignRadices n callsign-positive
+
+pub callsignAt-length : (n : ℕ) → length (callsignAt n) ≡ 6
+unfolding callsignAt digitsOf callsignRadices
+callsignAt-length n = length-charactersFrom 0 (digitsOf callsignRadices n)
+
+pub callsignAt-legal : (n : ℕ) → AllLegal 0 (callsignAt n)
+unfolding callsignAt
+callsignAt-legal n = legal-of-digits 0 (digitsOf callsignRadices n) (callsign-digits-at n)
+
+pub callsignNumber-callsignAt : (n : ℕ) → n < 262_177_560 → callsignNumber (callsignAt n) ≡ n
+unfolding callsignAt callsignNumber
+callsignNumber-callsignAt n h =
+    rw (digits-of-characters 0 (digitsOf callsignRadices n) (callsign-digits-at n))
+    (numberOf-digitsOf callsignRadices callsign-positive (subst (λ (m : ℕ). n < m) (sym callsign-count) h))
+
+-- ---- The locator's number
+
+pub locator-positive : Positive locatorRadices
+unfolding Positive locatorRadices
+locator-positive = omega arith
+
+pub locator-count : count locatorRadices ≡ 32_400
+unfolding count locatorRadices
+locator-count = refl
+
+-- The digits of M1, from a b c d.
+abbrev pub locatorDigits : List ℕ → List ℕ
+locatorDigits vs = (17 - getD vs 0 0) ∷ (9 - getD vs 2 0) ∷ getD vs 1 0 ∷ getD vs 3 0 ∷ []
+
+-- Four values that are below the sizes of the locator's sets.
+pub record Values (vs : List ℕ) : Type 0 where
+  pub a : getD vs 0 0 < 18
+  pub b : getD vs 1 0 < 18
+  pub c : getD vs 2 0 < 10
+  pub d : getD vs 3 0 < 10
+  pub all : vs ≡ getD vs 0 0 ∷ getD vs 1 0 ∷ getD vs 2 0 ∷ getD vs 3 0 ∷ []
+
+pub values : (vs : List ℕ) → length vs ≡ 4 → DigitsAt 6 vs → Values vs
+unfolding DigitsAt setAt callsignSets locatorSets
+values [] h k = absurd (omega arith)
+values (a ∷ []) h k = absurd (omega arith)
+values (a ∷ b ∷ []) h k = absurd (omega arith)
+values (a ∷ b ∷ c ∷ []) h k = absurd (omega arith)
+values (a ∷ b ∷ c ∷ d ∷ []) h k = record { a = k .0; b = k .1 .0; c = k .1 .1 .0; d = k .1 .1 .1 .0; all = refl }
+values (a ∷ b ∷ c ∷ d ∷ e ∷ vs) h k = absurd (omega arith)
+
+pub locator-values : (locator : List ℕ) → length locator ≡ 4 → AllLegal 6 locator → Values (digitsFrom 6 locator)
+locator-values locator four legal =
+    values (digitsFrom 6 locator) (length-digitsFrom 6 locator ∙ four) (digits-of-legal 6 locator legal)
+
+pub locator-digits : (vs : List ℕ) → Values vs → Digits locatorRadices (locatorDigits vs)
+unfolding Digits locatorRadices
+locator-digits vs v = omega arith
+
+-- 01's formula is the number of those digits.
+pub locatorNumber-digits : (locator : List ℕ) → length locator ≡ 4 → AllLegal 6 locator
+    → locatorNumber locator ≡ numberOf locatorRadices (locatorDigits (digitsFrom 6 locator))
+unfolding locatorNumber locatorNumberOf numberOf numberFrom locatorRadices
+locatorNumber-digits locator four legal =
+    let v = locator-values locator four legal in
+    omega arith
+
+pub locatorNumber-below : (locator : List ℕ) → length locator ≡ 4 → AllLegal 6 locator → locatorNumber locator < 32_400
+locatorNumber-below locator four legal =
+    let vs = digitsFrom 6 locator in
+    omega (arith, locatorNumber-digits locator four legal, locator-count,
+    number-below locatorRadices (locatorDigits vs) (locator-digits vs (locator-values locator four legal)))
+
+locatorValues-locatorDigits : (vs : List ℕ) → Values vs → locatorValues (locatorDigits vs) ≡ vs
+unfolding locatorValues
+locatorValues-locatorDigits vs v =
+    let a : 17 - (17 - getD vs 0 0) ≡ getD vs 0 0 = omega (arith, v .a) in
+    let c : 9 - (9 - getD vs 2 0) ≡ getD vs 2 0 = omega (arith, v .c) in
+    rw (a, c) (sym (v .all))
+
+pub locatorAt-locatorNumber : (locator : List ℕ) → length locator ≡ 4 → AllLegal 6 locator → locatorAt (locatorNumber locator) ≡ locator
+unfolding locatorAt
+locatorAt-locatorNumber locator four legal =
+    let vs = digitsFrom 6 locator in
+    let v = locator-values locator four legal in
+    rw (locatorNumber-digits locator four legal, digitsOf-numberOf locatorRadices (locatorDigits vs) (locator-digits vs v), locatorValues-locatorDigits vs v)
+    (characters-of-digits 6 locator legal)
+
+-- The values of a number are in their places' sets.
+pub locator-values-at : (n : ℕ) → DigitsAt 6 (locatorValues (digitsOf locatorRadices n))
+unfolding Digits DigitsAt digitsOf locatorValues setAt callsignSets locatorSets locatorRadices
+locator-values-at n =
+    let ds = digits-in-range locatorRadices n locator-positive in
+    omega arith
+
+pub locatorAt-length : (n : ℕ) → length (locatorAt n) ≡ 4
+unfolding locatorAt locatorValues
+locatorAt-length n = length-charactersFrom 6 (locatorValues (digitsOf locatorRadices n))
+
+pub locatorAt-legal : (n : ℕ) → AllLegal 6 (locatorAt n)
+unfolding locatorAt
+locatorAt-legal n = legal-of-digits 6 (locatorValues (digitsOf locatorRadices n)) (locator-values-at n)
+
+turned-twice : (x y b d : ℕ) → x < 18 → y < 10 → locatorDigits (locatorValues (x ∷ y ∷ b ∷ d ∷ [])) ≡ x ∷ y ∷ b ∷ d ∷ []
+unfolding locatorValues
+turned-twice x y b d h k =
+    let a : 17 - (17 - x) ≡ x = omega arith in
+    let c : 9 - (9 - y) ≡ y = omega arith in
+    rw (a, c)
+
+locatorDigits-locatorValues : (n : ℕ) → locatorDigits (locatorValues (digitsOf locatorRadices n)) ≡ digitsOf locatorRadices n
+unfolding Digits digitsOf locatorRadices
+locatorDigits-locatorValues n =
+    let ds = digits-in-range locatorRadices n locator-positive in
+    turned-twice _ _ _ _ (ds .0) (ds .1 .0)
+
+pub locatorNumber-locatorAt : (n : ℕ) → n < 32_400 → locatorNumber (locatorAt n) ≡ n
+unfolding locatorAt
+locatorNumber-locatorAt n h =
+    let vs = locatorValues (digitsOf locatorRadices n) in
+    locatorNumber-digits (locatorAt n) (locatorAt-length n) (locatorAt-legal n)
+    ∙ rw (digits-of-characters 6 vs (locator-values-at n), locatorDigits-locatorValues n)
+    (numberOf-digitsOf locatorRadices locator-positive (subst (λ (m : ℕ). n < m) (sym locator-count) h))
+
+-- ---- The word's parts
+
+module _ (n m1 power : ℕ) (locator : m1 < 32_400) (legal : power ≤ 60) where
+  pub callsignPart-word : callsignPart (wordFrom n (lowerNumber m1 power)) ≡ n
+  unfolding callsignPart wordFrom lowerNumber
+  callsignPart-word = omega arith
+
+  pub locatorPart-word : locatorPart (wordFrom n (lowerNumber m1 power)) ≡ m1
+  unfolding locatorPart wordFrom lowerNumber
+  locatorPart-word = omega arith
+
+  pub powerPart-word : powerPart (wordFrom n (lowerNumber m1 power)) ≡ power + 64
+  unfolding powerPart wordFrom lowerNumber
+  powerPart-word = omega arith
+
+  pub word-below : n < 262_177_560 → wordFrom n (lowerNumber m1 power) < 2 ^ 50
+  unfolding wordFrom lowerNumber
+  word-below h = omega arith
+
+pub word-of-parts : (word : ℕ) → 64 ≤ powerPart word
+    → wordFrom (callsignPart word) (lowerNumber (locatorPart word) (powerPart word - 64)) ≡ word
+unfolding callsignPart locatorPart powerPart wordFrom lowerNumber
+word-of-parts word h = omega arith

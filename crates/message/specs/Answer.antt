@@ -1,0 +1,73 @@
+-- What packing a message and unpacking a word answer, for every input, and the result numbers of each answer.
+use Prim.Native.Nat.{ℕ, _-_, _^_}
+use mathlib.Core.Bool.{Bool, cond, not, _&&_, _||_}
+use mathlib.Core.List.{List, _++_}
+use lib.Dec.{eqb, leb, ltb}
+use lib.ListN.{length}
+use Rattle.refusal.specs.Refusals.{refusal, wrongLength, badCharacter, badPower, wordTooLarge, badLocatorNumber, badPowerBits}
+use Rattle.message.specs.Character.{firstBad}
+use Rattle.message.specs.Power.{legalPower}
+use Rattle.message.specs.Word.{wordOf, callsignPart, locatorPart, powerPart, callsignOf, locatorOf}
+use Rattle.message.specs.declared.Packed.{Packed}
+use Rattle.message.specs.declared.Unpacked.{Unpacked}
+
+-- A callsign of six bytes and a locator of four.
+unfoldable pub rightLengths : List ℕ → List ℕ → Bool
+rightLengths callsign locator = eqb (length callsign) 6 && eqb (length locator) 4
+
+-- ---- From a message to its word: refusals 1, 2, 3
+
+unfoldable pub packed : List ℕ → List ℕ → ℕ → Packed
+packed callsign locator power =
+    let bad = firstBad 0 (callsign ++ locator) in
+    cond (not (rightLengths callsign locator)) (Packed.Refused (refusal wrongLength 0))
+    (cond (ltb bad 10) (Packed.Refused (refusal badCharacter bad))
+    (cond (not (legalPower power)) (Packed.Refused (refusal badPower 0))
+    (Packed.Word (wordOf callsign locator power))))
+
+-- ---- From a word to its message: refusals 1, 4, 5, 6
+
+-- A word's power, or why the word isn't a message's.
+unfoldable pub wordRead : ℕ → Unpacked
+wordRead word =
+    cond (leb (2 ^ 50) word || leb 262_177_560 (callsignPart word)) (Unpacked.Refused (refusal wordTooLarge 0))
+    (cond (leb 32_400 (locatorPart word)) (Unpacked.Refused (refusal badLocatorNumber 0))
+    (cond (ltb (powerPart word) 64 || not (legalPower (powerPart word - 64))) (Unpacked.Refused (refusal badPowerBits 0))
+    (Unpacked.Power (powerPart word - 64))))
+
+-- The answer, given what the lent callsign and locator hold.
+unfoldable pub unpacked : List ℕ → List ℕ → ℕ → Unpacked
+unpacked callsign locator word = cond (not (rightLengths callsign locator)) (Unpacked.Refused (refusal wrongLength 0)) (wordRead word)
+
+-- What a lent buffer holds after the answer: what it held where that is a refusal, else the characters.
+unfoldable pub after : Unpacked → List ℕ → List ℕ → List ℕ
+after (Unpacked.Power p) before characters = characters
+after (Unpacked.Refused f) before characters = before
+
+unfoldable pub callsignAfter : List ℕ → List ℕ → ℕ → List ℕ
+callsignAfter callsign locator word = after (unpacked callsign locator word) callsign (callsignOf word)
+
+unfoldable pub locatorAfter : List ℕ → List ℕ → ℕ → List ℕ
+locatorAfter callsign locator word = after (unpacked callsign locator word) locator (locatorOf word)
+
+-- ---- The result numbers of each answer: 0 where it has none
+
+-- Refusal number, place, word
+pub record WordNumbers : Type 0 where
+  pub number : ℕ
+  pub place : ℕ
+  pub word : ℕ
+
+unfoldable pub packedNumbers : Packed → WordNumbers
+packedNumbers (Packed.Word w) = record { number = 0; place = 0; word = w }
+packedNumbers (Packed.Refused f) = record { number = f .number; place = f .place; word = 0 }
+
+-- Refusal number, place, power
+pub record PowerNumbers : Type 0 where
+  pub number : ℕ
+  pub place : ℕ
+  pub power : ℕ
+
+unfoldable pub unpackedNumbers : Unpacked → PowerNumbers
+unpackedNumbers (Unpacked.Power p) = record { number = 0; place = 0; power = p }
+unpackedNumbers (Unpacked.Refused f) = record { number = f .number; place = f .place; power = 0 }

@@ -1,0 +1,40 @@
+-- What packing and unpacking promise of each other (demand 2): the round trips, and that the reader refuses exactly the words
+-- that the writer never makes.
+use Prim.Native.Nat.{ℕ}
+use mathlib.Core.Path.{_≡_}
+use mathlib.Core.Logic.{_↔_}
+use mathlib.Core.List.{List}
+use lib.ListN.{length}
+use Rattle.message.specs.Answer.{packed, wordRead}
+use Rattle.message.specs.Word.{callsignOf, locatorOf}
+use Rattle.message.specs.declared.Packed.{Packed}
+use Rattle.message.specs.declared.Unpacked.{Unpacked}
+
+-- The word reads as this message.
+pub record ReadsAs (word : ℕ) (callsign locator : List ℕ) (power : ℕ) : Type 0 where
+  pub its-power : wordRead word ≡ Unpacked.Power power
+  pub its-callsign : callsignOf word ≡ callsign
+  pub its-locator : locatorOf word ≡ locator
+
+-- What was packed reads back: the answer's word, where it has one, reads as the message.
+abbrev pub ReadsBack : Packed → List ℕ → List ℕ → ℕ → Type 0
+ReadsBack (Packed.Word w) callsign locator power = ReadsAs w callsign locator power
+ReadsBack (Packed.Refused f) callsign locator power = Unit
+
+-- What was read writes back: the callsign and locator with the answer's power, where it has one, have the word.
+abbrev pub WritesBack : Unpacked → ℕ → List ℕ → List ℕ → Type 0
+WritesBack (Unpacked.Power p) word callsign locator = packed callsign locator p ≡ Packed.Word word
+WritesBack (Unpacked.Refused f) word callsign locator = Unit
+
+-- The answer is a refusal.
+abbrev pub IsRefused : Unpacked → Type 0
+IsRefused (Unpacked.Power p) = ⊥
+IsRefused (Unpacked.Refused f) = Unit
+
+-- No message has this word.
+abbrev pub NeverMade : ℕ → Type 0
+NeverMade word = (callsign locator : List ℕ) (power : ℕ) → packed callsign locator power ≡ Packed.Word word → ⊥
+
+-- With a callsign of six bytes and a locator of four lent, the answer is a refusal exactly where no message has the word.
+abbrev pub RefusesExactly : Unpacked → ℕ → List ℕ → List ℕ → Type 0
+RefusesExactly answer word callsign locator = length callsign ≡ 6 → length locator ≡ 4 → IsRefused answer ↔ NeverMade word

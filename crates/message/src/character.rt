@@ -1,0 +1,127 @@
+// Characters, their values, and the sets of the ten places of a message.
+ghost use mathlib.Core.Path.{_≡_};
+ghost use Prim.Native.Nat.{_+_, _-_, _≤_, _<_};
+ghost use mathlib.Core.List.{_++_};
+ghost use lib.ListN.{length};
+ghost use Rattle.message.specs.Character.{value, character, setAt, legalAt, firstBad, digitsFrom, charactersFrom, DigitsAt};
+
+// Digits count 0 to 9, capital letters 10 to 35, the space 36; any other byte 37.
+fn value_of(byte: u8) -> u64
+    ensures { λ r. ⌜ r ≡ value byte ⌝ }
+{
+    match byte {
+        b'0'..=b'9' => (byte - b'0') as u64,
+        b'A'..=b'Z' => (byte - b'A') as u64 + 10,
+        b' ' => 36,
+        _ => 37,
+    }
+}
+
+// The character with a value from 0 to 36.
+fn character_of(value: u64) -> u8
+    ensures { λ r. ⌜ r ≡ character value ⌝ }
+{
+    if value < 10 {
+        (value as u8) + b'0'
+    } else if value < 36 {
+        (value as u8) + (b'A' - 10)
+    } else {
+        b' '
+    }
+}
+
+// The characters of a place's set have the values from its lowest on, as many as its size.
+const LOWEST: [u64; 10] = [0, 0, 0, 10, 10, 10, 10, 10, 0, 0];
+const SIZE: [u64; 10] = [37, 36, 10, 27, 27, 27, 18, 18, 10, 10];
+
+fn lowest_at(place: usize) -> u64
+    requires { ⌜ place < 10 ⌝ }
+    ensures { λ r. ⌜ r ≡ setAt place .lowest ⌝ }
+{
+    LOWEST[place]
+}
+
+fn size_at(place: usize) -> u64
+    requires { ⌜ place < 10 ⌝ }
+    ensures { λ r. ⌜ r ≡ setAt place .size ⌝ }
+{
+    SIZE[place]
+}
+
+fn is_legal_at(place: usize, byte: u8) -> bool
+    requires { ⌜ place < 10 ⌝ }
+    ensures { λ r. ⌜ r ≡ legalAt place byte ⌝ }
+{
+    let value = value_of(byte);
+    let lowest = lowest_at(place);
+    lowest <= value && value < lowest + size_at(place)
+}
+
+// The first place from `start` on whose character is outside its set; past the last where all are
+// legal.
+fn first_bad(start: usize, bytes: &[u8]) -> usize
+    requires { ⌜ start + length (now bytes) ≤ 10 ⌝ }
+    ensures { λ r. ⌜ r ≡ firstBad start (now (bytes .entry)) ⌝ }
+{
+    let mut i = 0;
+    while i < bytes.len() {
+        if !is_legal_at(start + i, bytes[i]) {
+            return start + i;
+        }
+        i += 1;
+    }
+    start + i
+}
+
+// The first place of a message whose character is outside its set, 0 to 9; 10 where all are legal.
+pub(crate) fn first_bad_of(callsign: &[u8], locator: &[u8]) -> usize
+    requires { ⌜ length (now callsign) ≡ 6 ⌝ }
+    requires { ⌜ length (now locator) ≡ 4 ⌝ }
+    ensures { λ r. ⌜ r ≡ firstBad 0 (now (callsign .entry) ++ now (locator .entry)) ⌝ }
+{
+    let bad = first_bad(0, callsign);
+    if bad < 6 {
+        return bad;
+    }
+    first_bad(6, locator)
+}
+
+// A legal character's value, counted from the lowest of its set.
+fn digit_at(place: usize, byte: u8) -> u64
+    requires { ⌜ place < 10 ⌝ }
+    ensures { λ r. ⌜ r ≡ value byte - setAt place .lowest ⌝ }
+{
+    let value = value_of(byte);
+    let lowest = lowest_at(place);
+    if value < lowest {
+        return 0;
+    }
+    value - lowest
+}
+
+// Writes the digits of the characters at the places from `start` on.
+pub(crate) fn read_digits(start: usize, bytes: &[u8], digits: &mut [u64])
+    requires { ⌜ start + length (now bytes) ≤ 10 ⌝ }
+    requires { ⌜ length (now digits) ≡ length (now bytes) ⌝ }
+    ensures { λ _. ⌜ now (digits .exit) ≡ digitsFrom start (now (bytes .entry)) ⌝ }
+{
+    let mut i = 0;
+    while i < bytes.len() {
+        digits[i] = digit_at(start + i, bytes[i]);
+        i += 1;
+    }
+}
+
+// Writes the characters of the digits at the places from `start` on.
+pub(crate) fn write_characters(start: usize, digits: &[u64], bytes: &mut [u8])
+    requires { ⌜ start + length (now bytes) ≤ 10 ⌝ }
+    requires { ⌜ length (now digits) ≡ length (now bytes) ⌝ }
+    requires { ⌜ DigitsAt start (now digits) ⌝ }
+    ensures { λ _. ⌜ now (bytes .exit) ≡ charactersFrom start (now (digits .entry)) ⌝ }
+{
+    let mut i = 0;
+    while i < digits.len() {
+        bytes[i] = character_of(lowest_at(start + i) + digits[i]);
+        i += 1;
+    }
+}

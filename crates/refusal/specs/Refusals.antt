@@ -1,0 +1,30 @@
+-- The numbers of 01's table of refusals by name. A refusal is such a number and a place.
+use Prim.Native.Nat.{ℕ}
+use Rattle.refusal.specs.declared.Refusal.{Refusal}
+
+abbrev pub refusal : ℕ → ℕ → Refusal
+refusal number place = record { number = number; place = place }
+
+-- "a lent buffer hasn't its exact length (call 6, locator 4, frame 162)"
+abbrev pub wrongLength : ℕ
+wrongLength = 1
+
+-- "a character is outside its set"; its place is the first such, 0 to 9
+abbrev pub badCharacter : ℕ
+badCharacter = 2
+
+-- "power isn't one of the 19"
+abbrev pub badPower : ℕ
+badPower = 3
+
+-- "word is 2^50 or more; in word reading also N is 262,177,560 or more"
+abbrev pub wordTooLarge : ℕ
+wordTooLarge = 4
+
+-- "M1 is 32,400 or more"
+abbrev pub badLocatorNumber : ℕ
+badLocatorNumber = 5
+
+-- "low seven bits less 64 aren't a legal power"
+abbrev pub badPowerBits : ℕ
+badPowerBits = 6

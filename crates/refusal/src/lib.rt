@@ -1,0 +1,20 @@
+// A refusal by its number and place, and the numbers of the table of refusals by name.
+
+pub struct Refusal {
+    pub number: u32,
+    // 0 where the number below names no place.
+    pub place: u32,
+}
+
+// A lent buffer hasn't its exact length.
+pub const WRONG_LENGTH: u32 = 1;
+// A character is outside its set. Place: the first such, 0 to 9.
+pub const BAD_CHARACTER: u32 = 2;
+// A power isn't one of the 19.
+pub const BAD_POWER: u32 = 3;
+// A word is 2^50 or more; in word reading also the callsign's number is past its end.
+pub const WORD_TOO_LARGE: u32 = 4;
+// In word reading the locator's number is past its end.
+pub const BAD_LOCATOR_NUMBER: u32 = 5;
+// In word reading the low seven bits less 64 aren't a legal power.
+pub const BAD_POWER_BITS: u32 = 6;
