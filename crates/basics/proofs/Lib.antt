@@ -1,3 +1,5 @@
 -- `Choice`: tests, and how the cases of a definition that tests and refuses are told apart. `Tables`: a rule of every entry.
+-- `Filling`: a loop that fills a list.
 pub mod Choice
 pub mod Tables
+pub mod Filling

@@ -7,12 +7,14 @@ use native.Mathlib.Omega.{arith}
 use mathlib.Core.Bool.{Bool, true, false, cond, _&&_}
 use mathlib.Core.List.{List, [], _∷_, _++_}
 use lib.Dec.{T, eqb, leb, ltb, leb→le}
-use lib.ListN.{length, getD, List·getD-map}
+use native.Mathlib.Numerals.{add-one}
+use lib.ListN.{length, getD, drop, List·getD-map, drop-of-length-le}
+use lib.Seq.{drop-cons}
 use borrow.Author.Tests.{le-leb, lt-leb, lt-ltb, le-ltb, leb-true, leb-false, ltb-true, ltb-false, eq-eqb, ne-eqb, eqb-true}
 use Rattle.radix.specs.Numeral.{Digits}
 use Rattle.basics.proofs.Tables.{every-at}
 use Rattle.basics.proofs.Choice.{and-true, cond-passed, cond-held, by-test, below-or-not, equal-or-not}
-use Rattle.message.specs.Character.{between, value, character, CharacterSet, callsignSets, locatorSets, setAt, legalAt, firstBad, digitsFrom, charactersFrom, DigitsAt}
+use Rattle.message.specs.Character.{between, value, character, CharacterSet, callsignSets, locatorSets, setAt, legalAt, firstBad, digitAt, characterAt, overPlaces, digitsFrom, charactersFrom, DigitsAt}
 
 -- ---- A byte's class
 
@@ -36,7 +38,6 @@ value-letter {b} h k = rw (between-above 48 57 b (omega arith) (omega arith), be
 pub value-space : value 32 ≡ 36
 unfolding value
 value-space = refl
-
 
 -- A byte between the classes is no character.
 pub value-below-digits : {b : ℕ} → b < 48 → (b ≡ 32 → ⊥) → value b ≡ 37
@@ -171,46 +172,91 @@ firstBad-first place (x ∷ xs) ys h =
 
 -- ---- Digits and characters are inverse to each other
 
+length-overPlaces : (f : ℕ → ℕ → ℕ) (place : ℕ) (xs : List ℕ) → length (overPlaces f place xs) ≡ length xs
+unfolding overPlaces
+length-overPlaces f place [] = refl
+length-overPlaces f place (x ∷ xs) = ap suc (length-overPlaces f (suc place) xs)
+
+getD-overPlaces : (f : ℕ → ℕ → ℕ) (place : ℕ) (xs : List ℕ) (i : ℕ) → i < length xs
+    → getD (overPlaces f place xs) i 0 ≡ f (place + i) (getD xs i 0)
+unfolding overPlaces
+getD-overPlaces f place [] i h = absurd (omega arith)
+getD-overPlaces f place (x ∷ xs) zero h = ap (λ (p : ℕ). f p x) (sym (add-zero place))
+getD-overPlaces f place (x ∷ xs) (suc i) h =
+    getD-overPlaces f (suc place) xs i (omega arith) ∙ ap (λ (p : ℕ). f p (getD xs i 0)) (omega arith)
+
 pub length-digitsFrom : (place : ℕ) (bs : List ℕ) → length (digitsFrom place bs) ≡ length bs
 unfolding digitsFrom
-length-digitsFrom place [] = refl
-length-digitsFrom place (b ∷ bs) = ap suc (length-digitsFrom (suc place) bs)
+length-digitsFrom place bs = length-overPlaces digitAt place bs
 
 pub length-charactersFrom : (place : ℕ) (ds : List ℕ) → length (charactersFrom place ds) ≡ length ds
 unfolding charactersFrom
-length-charactersFrom place [] = refl
-length-charactersFrom place (d ∷ ds) = ap suc (length-charactersFrom (suc place) ds)
+length-charactersFrom place ds = length-overPlaces characterAt place ds
+
+pub getD-digitsFrom : (place : ℕ) (bs : List ℕ) (i : ℕ) → i < length bs → getD (digitsFrom place bs) i 0 ≡ digitAt (place + i) (getD bs i 0)
+unfolding digitsFrom
+getD-digitsFrom place bs i h = getD-overPlaces digitAt place bs i h
+
+pub getD-charactersFrom : (place : ℕ) (ds : List ℕ) (i : ℕ) → i < length ds
+    → getD (charactersFrom place ds) i 0 ≡ characterAt (place + i) (getD ds i 0)
+unfolding charactersFrom
+getD-charactersFrom place ds i h = getD-overPlaces characterAt place ds i h
 
 pub digits-of-legal : (place : ℕ) (bs : List ℕ) → AllLegal place bs → DigitsAt place (digitsFrom place bs)
-unfolding AllLegal DigitsAt digitsFrom
+unfolding AllLegal DigitsAt digitsFrom overPlaces digitAt
 digits-of-legal place [] h = tt
 digits-of-legal place (b ∷ bs) h =
     (omega (arith, legal-lowest place b (h .0), legal-end place b (h .0)), digits-of-legal (suc place) bs (h .1))
 
 pub characters-of-digits : (place : ℕ) (bs : List ℕ) → AllLegal place bs → charactersFrom place (digitsFrom place bs) ≡ bs
-unfolding AllLegal digitsFrom charactersFrom
+unfolding AllLegal digitsFrom charactersFrom overPlaces digitAt characterAt
 characters-of-digits place [] h = refl
 characters-of-digits place (b ∷ bs) h =
-    rw (add-sub-of-le (legal-lowest place b (h .0)),
-        character-value b (omega (arith, legal-end place b (h .0), set-end place)),
-        characters-of-digits (suc place) bs (h .1))
+    rw (
+      add-sub-of-le (legal-lowest place b (h .0)),
+      character-value b (omega (arith, legal-end place b (h .0), set-end place)),
+      characters-of-digits (suc place) bs (h .1),
+    )
 
 -- The value of a digit's character.
 value-at : (place d : ℕ) → d < setAt place .size → value (character (setAt place .lowest + d)) ≡ setAt place .lowest + d
 value-at place d h = value-character (omega (arith, set-end place))
 
 pub legal-of-digits : (place : ℕ) (ds : List ℕ) → DigitsAt place ds → AllLegal place (charactersFrom place ds)
-unfolding AllLegal DigitsAt charactersFrom
+unfolding AllLegal DigitsAt charactersFrom overPlaces characterAt
 legal-of-digits place [] h = tt
 legal-of-digits place (d ∷ ds) h =
     let e = value-at place d (h .0) in
     (legal-from place _ (omega arith) (omega arith), legal-of-digits (suc place) ds (h .1))
 
 pub digits-of-characters : (place : ℕ) (ds : List ℕ) → DigitsAt place ds → digitsFrom place (charactersFrom place ds) ≡ ds
-unfolding DigitsAt digitsFrom charactersFrom
+unfolding DigitsAt digitsFrom charactersFrom overPlaces digitAt characterAt
 digits-of-characters place [] h = refl
 digits-of-characters place (d ∷ ds) h =
     rw (value-at place d (h .0), add-sub-cancel-left (setAt place .lowest) d, digits-of-characters (suc place) ds (h .1))
+
+-- The digit at an index is below its set's size.
+pub digit-below : (place : ℕ) (ds : List ℕ) (i : ℕ) → DigitsAt place ds → i < length ds → getD ds i 0 < setAt (place + i) .size
+unfolding DigitsAt
+digit-below place [] i h k = absurd (omega arith)
+digit-below place (d ∷ ds) zero h k = subst (λ (p : ℕ). d < setAt p .size) (sym (add-zero place)) (h .0)
+digit-below place (d ∷ ds) (suc i) h k =
+    subst (λ (p : ℕ). getD ds i 0 < setAt p .size) (omega arith) (digit-below (suc place) ds i (h .1) (omega arith))
+
+-- ---- The search for the first bad character, from an index on
+
+module _ (start : ℕ) (bs : List ℕ) (i : ℕ) where
+  pub search-bad : i < length bs → legalAt (start + i) (getD bs i 0) ≡ false → firstBad (start + i) (drop i bs) ≡ start + i
+  search-bad h e = rw (drop-cons bs i 0 h) (firstBad-bad (start + i) (getD bs i 0) (drop (suc i) bs) e)
+
+  pub search-legal : i < length bs → legalAt (start + i) (getD bs i 0) ≡ true
+      → firstBad (start + (i + 1)) (drop (i + 1) bs) ≡ firstBad (start + i) (drop i bs)
+  search-legal h e =
+      rw (drop-cons bs i 0 h, firstBad-legal (start + i) (getD bs i 0) (drop (suc i) bs) e, add-one i, add-suc start i)
+
+  pub search-over : length bs ≤ i → firstBad (start + i) (drop i bs) ≡ start + i
+  unfolding firstBad
+  search-over h = rw (drop-of-length-le bs h)
 
 -- ---- Digits at places as digits in radices
 

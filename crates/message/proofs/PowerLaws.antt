@@ -5,9 +5,9 @@ use native.Mathlib.Omega.{arith}
 use mathlib.Core.Bool.{Bool, true, false, cond}
 use mathlib.Core.List.{List, [], _∷_}
 use lib.Dec.{eqb, leb, ltb}
-use lib.ListN.{length, getD}
-use borrow.Author.Tests.{ltb-true, lt-ltb, leb-true, eqb-true, eq-eqb, ne-eqb}
-use Rattle.basics.proofs.Choice.{equal-or-not}
+use lib.ListN.{length, getD, List·getD-eq-default}
+use borrow.Author.Tests.{ltb-true, lt-ltb, le-ltb, leb-true, eqb-true, eq-eqb, ne-eqb}
+use Rattle.basics.proofs.Choice.{equal-or-not, below-or-not}
 use Rattle.basics.proofs.Tables.{every-at, below-at}
 use Rattle.message.specs.Power.{powers, indexIn, powerIndex, powerAt, legalPower}
 
@@ -19,8 +19,8 @@ getD-indexIn n (x ∷ xs) d h =
     equal-or-not n x
     (λ e. rw (eq-eqb n x e) (sym e))
     (λ other.
-      let t = ne-eqb n x other in
-      rw t (getD-indexIn n xs d (omega (arith, rw t at h))))
+    let t = ne-eqb n x other in
+    rw t (getD-indexIn n xs d (omega (arith, rw t at h))))
 
 pub powerAt-powerIndex : (power : ℕ) → powerIndex power < 19 → powerAt (powerIndex power) ≡ power
 unfolding powerIndex powerAt powers
@@ -35,9 +35,46 @@ pub legal-index : (power : ℕ) → legalPower power ≡ true → powerIndex pow
 unfolding legalPower
 legal-index power e = ltb-true _ _ e
 
+pub legal-by-index : (power : ℕ) → powerIndex power < 19 → legalPower power ≡ true
+unfolding legalPower
+legal-by-index power h = lt-ltb _ _ h
+
+pub illegal-by-index : (power : ℕ) → 19 ≤ powerIndex power → legalPower power ≡ false
+unfolding legalPower
+illegal-by-index power h = le-ltb _ _ h
+
 pub legal-power-end : (power : ℕ) → legalPower power ≡ true → power ≤ 60
 unfolding powerAt powers
 legal-power-end power e =
     let same = powerAt-powerIndex power (legal-index power e) in
     let end : powerAt (powerIndex power) ≤ 60 = leb-true _ _ (every-at (λ (p : ℕ). leb p 60) powers 0 refl refl (powerIndex power)) in
     omega arith
+
+-- ---- Numbers that a decision by single numbers leaves over
+
+-- As such a decision tells it: A, and the number is none of the list, which the last of the list ends.
+abbrev pub NoneOf : Type 0 → ℕ → List ℕ → Type 0
+NoneOf A n [] = A
+NoneOf A n (x ∷ xs) = NoneOf (A × (n ≡ x → ⊥)) n xs
+
+absent : (A : Type 0) (n : ℕ) (xs : List ℕ) → NoneOf A n xs → (indexIn n xs ≡ length xs) × A
+unfolding indexIn
+absent A n [] h = (refl, h)
+absent A n (x ∷ xs) h =
+    let later = absent (A × (n ≡ x → ⊥)) n xs h in
+    (rw (ne-eqb n x (later .1 .1)) (ap suc (later .0)), later .1 .0)
+
+pub indexIn-absent : (n : ℕ) (xs : List ℕ) → NoneOf Unit n xs → indexIn n xs ≡ length xs
+indexIn-absent n xs h = absent Unit n xs h .0
+
+-- The numbers below 19, in order.
+abbrev pub below-19 : List ℕ
+below-19 = 0 ∷ 1 ∷ 2 ∷ 3 ∷ 4 ∷ 5 ∷ 6 ∷ 7 ∷ 8 ∷ 9 ∷ 10 ∷ 11 ∷ 12 ∷ 13 ∷ 14 ∷ 15 ∷ 16 ∷ 17 ∷ 18 ∷ []
+
+pub powerAt-absent : (index : ℕ) → NoneOf Unit index below-19 → powerAt index ≡ 0
+unfolding powerAt powers indexIn
+powerAt-absent index h =
+    let none = indexIn-absent index below-19 h in
+    below-or-not index 19
+    (λ k. absurd (omega (arith, eqb-true (indexIn index below-19) index (below-at (λ (i : ℕ). eqb (indexIn i below-19) i) 19 refl index k))))
+    (λ k. List·getD-eq-default powers 0 k)

@@ -14,8 +14,8 @@ use Rattle.refusal.specs.Refusals.{refusal, wrongLength, badCharacter, badPower
 use Rattle.message.specs.Character.{firstBad}
 use Rattle.message.specs.Power.{legalPower}
 use Rattle.message.specs.Word.{callsignNumber, locatorNumber, lowerNumber, wordFrom, wordOf, callsignPart, locatorPart, powerPart, callsignAt, locatorAt, callsignOf, locatorOf}
-use Rattle.message.specs.Answer.{rightLengths, packed, wordRead}
-use Rattle.message.specs.RoundTrip.{ReadsAs, IsRefused, NeverMade}
+use Rattle.message.specs.Answer.{rightLengths, packed, wordRead, unpacked, after, callsignAfter, locatorAfter}
+use Rattle.message.specs.RoundTrip.{ReadsAs, WritesBack, IsRefused, NeverMade, RefusesExactly}
 use Rattle.message.specs.declared.Packed.{Packed}
 use Rattle.message.specs.declared.Unpacked.{Unpacked}
 use Rattle.message.proofs.CharacterLaws.{AllLegal, firstBad-end, firstBad-append, firstBad-first, all-legal, none-bad}
@@ -27,6 +27,12 @@ use Rattle.message.proofs.WordLaws.{callsignNumber-below, callsignAt-ca
 pub right-lengths : (callsign locator : List ℕ) → length callsign ≡ 6 → length locator ≡ 4 → rightLengths callsign locator ≡ true
 unfolding rightLengths
 right-lengths callsign locator h k = rw (eq-eqb _ _ h, eq-eqb _ _ k)
+
+pub lengths-of-right : (callsign locator : List ℕ) → rightLengths callsign locator ≡ true → (length callsign ≡ 6) × (length locator ≡ 4)
+unfolding rightLengths
+lengths-of-right callsign locator e =
+    let tests = and-true (eqb (length callsign) 6) _ e in
+    (eqb-true _ _ (tests .0), eqb-true _ _ (tests .1))
 
 -- What a message is that is packed.
 pub record Legal (callsign locator : List ℕ) (power : ℕ) : Type 0 where
@@ -68,22 +74,25 @@ pub legal-whole : (callsign locator : List ℕ) → length callsign ≡ 6 → le
 legal-whole callsign locator six four h k =
     omega (arith, firstBad-append 0 6 callsign locator (omega arith) h, none-bad 6 locator k)
 
+pub legal-message : (callsign locator : List ℕ) (power : ℕ) → rightLengths callsign locator ≡ true
+    → 10 ≤ firstBad 0 (callsign ++ locator) → legalPower power ≡ true → Legal callsign locator power
+legal-message callsign locator power right good legal =
+    let lengths = lengths-of-right callsign locator right in
+    let parts = legal-parts callsign locator (lengths .0) (lengths .1) good in
+    record { six = lengths .0; four = lengths .1; callsign-legal = parts .0; locator-legal = parts .1; power-legal = legal }
+
 -- A refusal is no word.
 refused-no-word : (f : Refusal) (word : ℕ) → Packed.Refused f ≡ Packed.Word word → ⊥
 refused-no-word f word e = let z : _≡_ {A = ℕ} 0 1 = cc in omega arith
 
 pub legal-of-packed : (callsign locator : List ℕ) (power word : ℕ) → packed callsign locator power ≡ Packed.Word word
     → Legal callsign locator power × (word ≡ wordOf callsign locator power)
-unfolding packed rightLengths
+unfolding packed
 legal-of-packed callsign locator power word e =
     let lengths = cond-passed (not (rightLengths callsign locator)) e (refused-no-word _ word) in
     let characters = cond-passed (ltb (firstBad 0 (callsign ++ locator)) 10) (lengths .1) (refused-no-word _ word) in
     let its-power = cond-passed (not (legalPower power)) (characters .1) (refused-no-word _ word) in
-    let right = and-true (eqb (length callsign) 6) _ (not-false _ (lengths .0)) in
-    let six = eqb-true _ _ (right .0) in
-    let four = eqb-true _ _ (right .1) in
-    let parts = legal-parts callsign locator six four (ltb-false _ _ (characters .0)) in
-    (record { six = six; four = four; callsign-legal = parts .0; locator-legal = parts .1; power-legal = not-false _ (its-power .0) }, cc)
+    (legal-message callsign locator power (not-false _ (lengths .0)) (ltb-false _ _ (characters .0)) (not-false _ (its-power .0)), cc)
 
 -- ---- The cases of reading a word
 
@@ -191,6 +200,40 @@ refuses-exactly word = (λ refused callsign locator power made. never refused (u
   where
     never : {power : ℕ} → IsRefused (wordRead word) → wordRead word ≡ Unpacked.Power power → ⊥
     never refused e = rw e at refused
+
     exact : (answer : Unpacked) → wordRead word ≡ answer → NeverMade word → IsRefused answer
     exact (Unpacked.Power p) e never-made = never-made _ _ p (pack-unpack word p e)
     exact (Unpacked.Refused f) e never-made = tt
+
+-- ---- What unpacking into lent buffers promises, from its answer and what they then hold
+
+module _ (callsign locator : List ℕ) (word : ℕ) where
+  abbrev pub Met : Unpacked → List ℕ → List ℕ → Type 0
+  Met answer its-callsign its-locator =
+      (answer ≡ unpacked callsign locator word)
+      × ((its-callsign ≡ callsignAfter callsign locator word)
+      × ((its-locator ≡ locatorAfter callsign locator word)
+      × (WritesBack answer word its-callsign its-locator × RefusesExactly answer word callsign locator)))
+
+  pub unpacked-length : rightLengths callsign locator ≡ false → unpacked callsign locator word ≡ Unpacked.Refused (refusal wrongLength 0)
+  unfolding unpacked
+  unpacked-length e = rw e
+
+  pub unpacked-read : rightLengths callsign locator ≡ true → unpacked callsign locator word ≡ wordRead word
+  unfolding unpacked
+  unpacked-read e = rw e
+
+  -- With the lengths right the answer is the word's.
+  exactly : RefusesExactly (unpacked callsign locator word) word callsign locator
+  exactly six four = rw (unpacked-read (right-lengths callsign locator six four)) (refuses-exactly word)
+
+  pub met-refused : (f : Refusal) → unpacked callsign locator word ≡ Unpacked.Refused f → Met (Unpacked.Refused f) callsign locator
+  unfolding callsignAfter locatorAfter after
+  met-refused f e = (sym e, (rw e, (rw e, (tt, rw e at exactly))))
+
+  pub met-power : (power : ℕ) → rightLengths callsign locator ≡ true → wordRead word ≡ Unpacked.Power power
+      → Met (Unpacked.Power power) (callsignOf word) (locatorOf word)
+  unfolding callsignAfter locatorAfter after
+  met-power power right read =
+      let e = unpacked-read right ∙ read in
+      (sym e, (rw e, (rw e, (pack-unpack word power read, rw e at exactly))))

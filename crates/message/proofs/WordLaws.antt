@@ -108,8 +108,12 @@ locatorNumber-digits locator four legal =
 pub locatorNumber-below : (locator : List ℕ) → length locator ≡ 4 → AllLegal 6 locator → locatorNumber locator < 32_400
 locatorNumber-below locator four legal =
     let vs = digitsFrom 6 locator in
-    omega (arith, locatorNumber-digits locator four legal, locator-count,
-    number-below locatorRadices (locatorDigits vs) (locator-digits vs (locator-values locator four legal)))
+    omega (
+      arith,
+      locatorNumber-digits locator four legal,
+      locator-count,
+      number-below locatorRadices (locatorDigits vs) (locator-digits vs (locator-values locator four legal)),
+    )
 
 locatorValues-locatorDigits : (vs : List ℕ) → Values vs → locatorValues (locatorDigits vs) ≡ vs
 unfolding locatorValues

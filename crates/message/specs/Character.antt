@@ -75,13 +75,22 @@ firstBad place (b ∷ bs) = cond (legalAt place b) (firstBad (suc place) bs) pla
 
 -- ---- Digits: a character's value counted from its set's lowest
 
+unfoldable pub digitAt : ℕ → ℕ → ℕ
+digitAt place byte = value byte - setAt place .lowest
+
+unfoldable pub characterAt : ℕ → ℕ → ℕ
+characterAt place digit = character (setAt place .lowest + digit)
+
+-- Each element by its place, from the given one on.
+unfoldable pub overPlaces : (ℕ → ℕ → ℕ) → ℕ → List ℕ → List ℕ
+overPlaces f place [] = []
+overPlaces f place (x ∷ xs) = f place x ∷ overPlaces f (suc place) xs
+
 unfoldable pub digitsFrom : ℕ → List ℕ → List ℕ
-digitsFrom place [] = []
-digitsFrom place (b ∷ bs) = (value b - setAt place .lowest) ∷ digitsFrom (suc place) bs
+digitsFrom place bytes = overPlaces digitAt place bytes
 
 unfoldable pub charactersFrom : ℕ → List ℕ → List ℕ
-charactersFrom place [] = []
-charactersFrom place (d ∷ ds) = character (setAt place .lowest + d) ∷ charactersFrom (suc place) ds
+charactersFrom place digits = overPlaces characterAt place digits
 
 -- Each digit is below its set's size.
 unfoldable pub DigitsAt : ℕ → List ℕ → Type 0

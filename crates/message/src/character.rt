@@ -1,9 +1,9 @@
 // Characters, their values, and the sets of the ten places of a message.
 ghost use mathlib.Core.Path.{_≡_};
-ghost use Prim.Native.Nat.{_+_, _-_, _≤_, _<_};
+ghost use Prim.Native.Nat.{_+_, _≤_, _<_};
 ghost use mathlib.Core.List.{_++_};
 ghost use lib.ListN.{length};
-ghost use Rattle.message.specs.Character.{value, character, setAt, legalAt, firstBad, digitsFrom, charactersFrom, DigitsAt};
+ghost use Rattle.message.specs.Character.{value, character, setAt, legalAt, firstBad, digitAt, digitsFrom, charactersFrom, DigitsAt};
 
 // Digits count 0 to 9, capital letters 10 to 35, the space 36; any other byte 37.
 fn value_of(byte: u8) -> u64
@@ -32,6 +32,7 @@ fn character_of(value: u64) -> u8
 
 // The characters of a place's set have the values from its lowest on, as many as its size.
 const LOWEST: [u64; 10] = [0, 0, 0, 10, 10, 10, 10, 10, 0, 0];
+
 const SIZE: [u64; 10] = [37, 36, 10, 27, 27, 27, 18, 18, 10, 10];
 
 fn lowest_at(place: usize) -> u64
@@ -89,7 +90,7 @@ pub(crate) fn first_bad_of(callsign: &[u8], locator: &[u8]) -> usize
 // A legal character's value, counted from the lowest of its set.
 fn digit_at(place: usize, byte: u8) -> u64
     requires { ⌜ place < 10 ⌝ }
-    ensures { λ r. ⌜ r ≡ value byte - setAt place .lowest ⌝ }
+    ensures { λ r. ⌜ r ≡ digitAt place byte ⌝ }
 {
     let value = value_of(byte);
     let lowest = lowest_at(place);

@@ -4,9 +4,14 @@ pub mod power;
 mod word;
 
 ghost use mathlib.Core.Path.{_≡_};
+ghost use mathlib.Core.Bool.{_&&_};
+ghost use lib.Dec.{eqb};
 ghost use Rattle.message.specs.Answer.{packed, unpacked, callsignAfter, locatorAfter};
 ghost use Rattle.message.specs.RoundTrip.{ReadsBack, WritesBack, RefusesExactly};
-use refusal::{BAD_CHARACTER, BAD_POWER, Refusal, WRONG_LENGTH};
+use refusal::BAD_CHARACTER;
+use refusal::BAD_POWER;
+use refusal::Refusal;
+use refusal::WRONG_LENGTH;
 
 // The answer of `pack`.
 pub enum Packed {
@@ -20,12 +25,19 @@ pub enum Unpacked {
     Refused(Refusal),
 }
 
+// Of a callsign and a locator of these lengths, each has its own.
+fn right_lengths(callsign: usize, locator: usize) -> bool
+    ensures { λ r. ⌜ r ≡ (eqb callsign 6 && eqb locator 4) ⌝ }
+{
+    callsign == 6 && locator == 4
+}
+
 // The word of a message.
 pub fn pack(callsign: &[u8], locator: &[u8], power: u32) -> Packed
     ensures answer { λ r. ⌜ r ≡ packed (now (callsign .entry)) (now (locator .entry)) power ⌝ }
     ensures reads_back { λ r. ⌜ ReadsBack r (now (callsign .entry)) (now (locator .entry)) power ⌝ }
 {
-    if callsign.len() != 6 || locator.len() != 4 {
+    if !right_lengths(callsign.len(), locator.len()) {
         return Packed::Refused(Refusal {
             number: WRONG_LENGTH,
             place: 0,
@@ -57,7 +69,7 @@ pub fn unpack(word: u64, callsign: &mut [u8], locator: &mut [u8]) -> Unpacked
     ensures writes_back { λ r. ⌜ WritesBack r word (now (callsign .exit)) (now (locator .exit)) ⌝ }
     ensures refuses_exactly { λ r. ⌜ RefusesExactly r word (now (callsign .entry)) (now (locator .entry)) ⌝ }
 {
-    if callsign.len() != 6 || locator.len() != 4 {
+    if !right_lengths(callsign.len(), locator.len()) {
         return Unpacked::Refused(Refusal {
             number: WRONG_LENGTH,
             place: 0,

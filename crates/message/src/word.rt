@@ -6,11 +6,16 @@ ghost use Rattle.message.specs.Character.{firstBad};
 ghost use Rattle.message.specs.Word.{callsignNumber, locatorNumber, lowerNumber, wordFrom, callsignAt, locatorAt};
 ghost use Rattle.message.specs.Answer.{wordRead};
 use super::Unpacked;
-use super::character::{read_digits, write_characters};
+use super::character::read_digits;
+use super::character::write_characters;
 use super::power::index_of;
-use refusal::{BAD_LOCATOR_NUMBER, BAD_POWER_BITS, Refusal, WORD_TOO_LARGE};
+use refusal::BAD_LOCATOR_NUMBER;
+use refusal::BAD_POWER_BITS;
+use refusal::Refusal;
+use refusal::WORD_TOO_LARGE;
 
 const CALLSIGN_RADICES: [u64; 6] = [37, 36, 10, 27, 27, 27];
+
 const LOCATOR_RADICES: [u64; 4] = [18, 10, 18, 10];
 
 // The number of a callsign of legal characters.

@@ -83,20 +83,24 @@ digitsOf-numberOf [] [] h = refl
 digitsOf-numberOf [] (d ∷ ds) h = absurd h
 digitsOf-numberOf (r ∷ rs) [] h = absurd h
 digitsOf-numberOf (r ∷ rs) (d ∷ ds) h =
-    rw (numberOf-cons r d rs ds (h .1),
-        digits-div d (number-below rs ds (h .1)),
-        mod-eq-of-lt (h .0),
-        digitsOf-front rs d (numberOf rs ds) (digits-positive rs ds (h .1)),
-        digitsOf-numberOf rs ds (h .1))
+    rw (
+      numberOf-cons r d rs ds (h .1),
+      digits-div d (number-below rs ds (h .1)),
+      mod-eq-of-lt (h .0),
+      digitsOf-front rs d (numberOf rs ds) (digits-positive rs ds (h .1)),
+      digitsOf-numberOf rs ds (h .1),
+    )
 
 -- In general, what is left of a number is the number modulo the count.
 pub numberOf-digitsOf-mod : (rs : List ℕ) (n : ℕ) → Positive rs → numberOf rs (digitsOf rs n) ≡ n % count rs
 unfolding Positive count numberOf numberFrom digitsOf
 numberOf-digitsOf-mod [] n h = omega arith
 numberOf-digitsOf-mod (r ∷ rs) n h =
-    rw (numberOf-cons r (n / count rs % r) rs (digitsOf rs n) (digits-in-range rs n (h .1)),
-        numberOf-digitsOf-mod rs n (h .1),
-        mod-mul n (h .0) (count-positive rs (h .1)))
+    rw (
+      numberOf-cons r (n / count rs % r) rs (digitsOf rs n) (digits-in-range rs n (h .1)),
+      numberOf-digitsOf-mod rs n (h .1),
+      mod-mul n (h .0) (count-positive rs (h .1)),
+    )
 
 pub numberOf-digitsOf : (rs : List ℕ) {n : ℕ} → Positive rs → n < count rs → numberOf rs (digitsOf rs n) ≡ n
 numberOf-digitsOf rs {n} h below = numberOf-digitsOf-mod rs n h ∙ mod-eq-of-lt below
@@ -116,8 +120,7 @@ digitsOf-repacked rs ss ds h k room =
 -- What is left above the highest digit is 0 exactly for the numbers that have a numeral.
 pub rest-zero : (rs : List ℕ) (n : ℕ) → Positive rs → (n / count rs ≡ 0) ↔ (n < count rs)
 rest-zero rs n h =
-    let c : 0 < count rs = count-positive rs h in
-    (
+    let c : 0 < count rs = count-positive rs h in (
       λ (e : n / count rs ≡ 0). subst (λ (k : ℕ). n < k) (one-mul (count rs)) (div-lt-iff-lt-mul {x = n} {y = 1} c .0 (omega arith)),
       λ (b : n < count rs). div-eq-of-lt b,
     )

@@ -79,7 +79,7 @@ unpack-turn number rs ds left (suc k) h u =
     let in-digits : k < length ds = omega (arith, u .same) in
     let in-set : k < length (set ds k v) = simp length-set in-digits in
     let step = div-div-eq-div-mul number (count (drop (suc k) rs)) (getD rs k 0)
-        ∙ ap (λ (n : ℕ). number / n) (mul-comm (count (drop (suc k) rs)) (getD rs k 0)) in
+    ∙ ap (λ (n : ℕ). number / n) (mul-comm (count (drop (suc k) rs)) (getD rs k 0)) in
     rw sub-one (record {
       within = omega arith;
       same = length-set ds k v ∙ u .same;

@@ -1,3 +1,14 @@
+-- `message::character::first_bad` meets its contract. The loop's invariant: the first bad place from i on is that of all the bytes.
+-- The measure is what is left of the length.
+-- Assumes nothing.
+use mathlib.Core.Path.{_≡_, sym, ap, _∙_}
+use Prim.Native.Nat.{ℕ, _+_, _-_, _≤_}
+use native.Mathlib.Nat.{add-zero}
+use native.Mathlib.Omega.{arith}
+use borrow.Author.Tests.{not-true, not-false}
+use lib.ListN.{length, drop}
+use Rattle.message.specs.Character.{firstBad}
+use Rattle.message.proofs.CharacterLaws.{search-bad, search-legal, search-over}
 use Rattle.message.proofs.character.first_bad.Statement.{statement}
 use Rattle.message.proofs.character.first_bad.Tie as tie
 use Rattle.message.proofs.character.first_bad.Reads as reads
@@ -5,54 +16,54 @@ use Rattle.message.proofs.character.first_bad.Lts as lts
 use Rattle.message.proofs.character.is_legal_at.Reads as is-legal-at-reads
 
 abbrev Inv-loop : tie.InvT-loop
-Inv-loop start bytes i₀ i = ?
+Inv-loop start bytes i₀ i = (i ≤ length bytes) × (firstBad (start + i) (drop i bytes) ≡ firstBad start bytes)
 
 abbrev μ-loop : tie.MeasureT-loop
-μ-loop start bytes i₀ i = ?
+μ-loop start bytes i₀ i = length bytes - i
 
--- src/character.rt:53:5
 loop-holds : tie.Need-loop-holds Inv-loop μ-loop
-loop-holds c = ?
+loop-holds c =
+    let a = c .before .args in
+    (omega arith, ap (λ (p : ℕ). firstBad p (a .bytes .now)) (add-zero (a .start)))
 
--- src/character.rt:54:25
 add-is-legal-at : tie.Need-add-is-legal-at Inv-loop μ-loop
-add-is-legal-at c = ?
+add-is-legal-at c = omega arith
 
--- src/character.rt:54:36
 shared-slice-read-is-legal-at : tie.Need-shared-slice-read-is-legal-at Inv-loop μ-loop
-shared-slice-read-is-legal-at c = ?
+shared-slice-read-is-legal-at c = omega arith
 
--- src/character.rt:54:13
 is-legal-at-requires : tie.Need-is-legal-at-requires Inv-loop μ-loop
-is-legal-at-requires c κs = ?
+is-legal-at-requires c κs = omega arith
 
--- src/character.rt:55:20
 add-result : tie.Need-add-result Inv-loop μ-loop
-add-result c = ?
+add-result c = omega arith
 
--- src/character.rt:55:13
 returns : tie.Need-returns Inv-loop μ-loop
-returns c = ?
+returns c =
+    let l = c .before .before .before .before in
+    let a = l .before .before .args in
+    sym (search-bad (a .start) (a .bytes .now) (l .loop .i) (omega arith) (sym (c .before .is-legal-at .ensures) ∙ not-true _ (c .if1 .taken))) ∙ l .loop .inv .1
 
--- src/character.rt:57:9
 add-i : tie.Need-add-i Inv-loop μ-loop
-add-i c = ?
+add-i c = omega arith
 
--- src/character.rt:53:5
 loop-less : tie.Need-loop-less Inv-loop μ-loop
-loop-less c = ?
+loop-less c = omega arith
 
--- src/character.rt:53:5
 loop-again : tie.Need-loop-again Inv-loop μ-loop
-loop-again c = ?
+loop-again c =
+    let l = c .before .before .before .before in
+    let a = l .before .before .args in
+    (omega arith, search-legal (a .start) (a .bytes .now) (l .loop .i) (omega arith) (sym (c .before .is-legal-at .ensures) ∙ not-false _ (c .if1 .left)) ∙ l .loop .inv .1)
 
--- src/character.rt:59:5
 add-result-2 : tie.Need-add-result-2 Inv-loop μ-loop
-add-result-2 c = ?
+add-result-2 c = omega arith
 
--- src/character.rt:48:1
 returns-2 : tie.Need-returns-2 Inv-loop μ-loop
-returns-2 c = ?
+returns-2 c =
+    let l = c .before in
+    let a = l .before .before .args in
+    sym (search-over (a .start) (a .bytes .now) (l .loop .i) (omega arith)) ∙ l .loop .inv .1
 
 pub first-bad-spec : {M : Type 1} → statement M
 first-bad-spec =

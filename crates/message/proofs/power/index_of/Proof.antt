@@ -1,87 +1,93 @@
+-- `message::power::index_of` meets its contract: each arm is the definition at its own power, and a power that is none of them has no
+-- index in the list.
+-- Assumes nothing.
+use mathlib.Core.Path.{_≡_, sym, ap}
+use Rattle.message.specs.Power.{powers, indexIn, powerIndex}
+use Rattle.message.proofs.PowerLaws.{indexIn-absent}
 use Rattle.message.proofs.power.index_of.Statement.{statement}
 use Rattle.message.proofs.power.index_of.Tie as tie
 use Rattle.message.proofs.power.index_of.Reads as reads
 use Rattle.message.proofs.power.index_of.Lts as lts
 
--- src/power.rt:6:1
 returns : tie.Need-returns
-returns c = ?
+unfolding powerIndex powers indexIn
+returns c = sym (ap powerIndex (c .match .keys1))
 
--- src/power.rt:6:1
 returns-2 : tie.Need-returns-2
-returns-2 c = ?
+unfolding powerIndex powers indexIn
+returns-2 c = sym (ap powerIndex (c .match .keys2))
 
--- src/power.rt:6:1
 returns-3 : tie.Need-returns-3
-returns-3 c = ?
+unfolding powerIndex powers indexIn
+returns-3 c = sym (ap powerIndex (c .match .keys3))
 
--- src/power.rt:6:1
 returns-4 : tie.Need-returns-4
-returns-4 c = ?
+unfolding powerIndex powers indexIn
+returns-4 c = sym (ap powerIndex (c .match .keys4))
 
--- src/power.rt:6:1
 returns-5 : tie.Need-returns-5
-returns-5 c = ?
+unfolding powerIndex powers indexIn
+returns-5 c = sym (ap powerIndex (c .match .keys5))
 
--- src/power.rt:6:1
 returns-6 : tie.Need-returns-6
-returns-6 c = ?
+unfolding powerIndex powers indexIn
+returns-6 c = sym (ap powerIndex (c .match .keys6))
 
--- src/power.rt:6:1
 returns-7 : tie.Need-returns-7
-returns-7 c = ?
+unfolding powerIndex powers indexIn
+returns-7 c = sym (ap powerIndex (c .match .keys7))
 
--- src/power.rt:6:1
 returns-8 : tie.Need-returns-8
-returns-8 c = ?
+unfolding powerIndex powers indexIn
+returns-8 c = sym (ap powerIndex (c .match .keys8))
 
--- src/power.rt:6:1
 returns-9 : tie.Need-returns-9
-returns-9 c = ?
+unfolding powerIndex powers indexIn
+returns-9 c = sym (ap powerIndex (c .match .keys9))
 
--- src/power.rt:6:1
 returns-10 : tie.Need-returns-10
-returns-10 c = ?
+unfolding powerIndex powers indexIn
+returns-10 c = sym (ap powerIndex (c .match .keys10))
 
--- src/power.rt:6:1
 returns-11 : tie.Need-returns-11
-returns-11 c = ?
+unfolding powerIndex powers indexIn
+returns-11 c = sym (ap powerIndex (c .match .keys11))
 
--- src/power.rt:6:1
 returns-12 : tie.Need-returns-12
-returns-12 c = ?
+unfolding powerIndex powers indexIn
+returns-12 c = sym (ap powerIndex (c .match .keys12))
 
--- src/power.rt:6:1
 returns-13 : tie.Need-returns-13
-returns-13 c = ?
+unfolding powerIndex powers indexIn
+returns-13 c = sym (ap powerIndex (c .match .keys13))
 
--- src/power.rt:6:1
 returns-14 : tie.Need-returns-14
-returns-14 c = ?
+unfolding powerIndex powers indexIn
+returns-14 c = sym (ap powerIndex (c .match .keys14))
 
--- src/power.rt:6:1
 returns-15 : tie.Need-returns-15
-returns-15 c = ?
+unfolding powerIndex powers indexIn
+returns-15 c = sym (ap powerIndex (c .match .keys15))
 
--- src/power.rt:6:1
 returns-16 : tie.Need-returns-16
-returns-16 c = ?
+unfolding powerIndex powers indexIn
+returns-16 c = sym (ap powerIndex (c .match .keys16))
 
--- src/power.rt:6:1
 returns-17 : tie.Need-returns-17
-returns-17 c = ?
+unfolding powerIndex powers indexIn
+returns-17 c = sym (ap powerIndex (c .match .keys17))
 
--- src/power.rt:6:1
 returns-18 : tie.Need-returns-18
-returns-18 c = ?
+unfolding powerIndex powers indexIn
+returns-18 c = sym (ap powerIndex (c .match .keys18))
 
--- src/power.rt:6:1
 returns-19 : tie.Need-returns-19
-returns-19 c = ?
+unfolding powerIndex powers indexIn
+returns-19 c = sym (ap powerIndex (c .match .keys19))
 
--- src/power.rt:6:1
 returns-20 : tie.Need-returns-20
-returns-20 c = ?
+unfolding powerIndex powers
+returns-20 c = sym (indexIn-absent (c .before .args .power) powers (c .match .rest))
 
 pub index-of-spec : {M : Type 1} → statement M
 index-of-spec =

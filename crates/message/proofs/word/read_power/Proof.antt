@@ -1,3 +1,12 @@
+-- `message::word::read_power` meets its contract: at each return the tests that led there say which case of the definition holds.
+-- Assumes nothing.
+use mathlib.Core.Path.{sym}
+use mathlib.Core.Logic.{⊎-elim}
+use native.Mathlib.Omega.{arith}
+use borrow.Author.Tests.{leb-true, leb-false}
+use Rattle.message.specs.Word.{callsignPart, locatorPart, powerPart}
+use Rattle.message.proofs.PowerLaws.{legal-by-index, illegal-by-index}
+use Rattle.message.proofs.RoundTripLaws.{wordRead-callsign, wordRead-locator, wordRead-low, wordRead-illegal, wordRead-power}
 use borrow.Author.Needs.{needs}
 use Rattle.message.proofs.word.read_power.Statement.{statement}
 use Rattle.message.proofs.word.read_power.Tie as tie
@@ -5,33 +14,39 @@ use Rattle.message.proofs.word.read_power.Reads as reads
 use Rattle.message.proofs.word.read_power.Lts as lts
 use Rattle.message.proofs.power.index_of.Reads as index-of-reads
 
--- src/word.rt:56:9
 returns : tie.Need-returns
-returns c = ?
+unfolding callsignPart
+returns c = sym (wordRead-callsign (c .before .args .word) (omega arith))
 
--- src/word.rt:61:17
 rem-lower : tie.Need-rem-lower
 rem-lower c = search needs
 
--- src/word.rt:63:9
 returns-2 : tie.Need-returns-2
-returns-2 c = ?
+unfolding callsignPart locatorPart
+returns-2 c = sym (wordRead-locator (c .before .before .args .word) (omega arith) (omega arith))
 
--- src/word.rt:68:16
 cast-bits : tie.Need-cast-bits
 cast-bits c = search needs
 
--- src/word.rt:69:27
 index-of-requires : tie.Need-index-of-requires
 index-of-requires c κs = search needs
 
--- src/word.rt:70:9
 returns-3 : tie.Need-returns-3
-returns-3 c = ?
+unfolding callsignPart locatorPart powerPart
+returns-3 c =
+    let word = c .before .before .before .args .word in
+    ⊎-elim
+    (λ w. sym (wordRead-low word (omega arith) (omega arith) (omega arith)))
+    (λ w. sym (wordRead-illegal word (omega arith) (omega arith) (omega arith)
+    (illegal-by-index _ (omega (arith, leb-true 19 (w .1 .result) (w .2 .taken), w .1 .ensures)))))
+    (c .if3 .came)
 
--- src/word.rt:52:1
 returns-4 : tie.Need-returns-4
-returns-4 c = ?
+unfolding callsignPart locatorPart powerPart
+returns-4 c =
+    let word = c .before .before .before .before .before .args .word in
+    sym (wordRead-power word (omega arith) (omega arith) (omega arith)
+    (legal-by-index _ (omega (arith, leb-false 19 (c .before .index-of .result) (c .if4 .left)))))
 
 pub read-power-spec : {M : Type 1} → statement M
 read-power-spec =

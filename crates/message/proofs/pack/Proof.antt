@@ -1,0 +1,115 @@
+-- `message::pack` meets its contract: at each return the tests that led there say which case of the definition holds, and the word of a
+-- legal message reads back.
+-- Assumes nothing.
+use mathlib.Core.Path.{_≡_, sym, ap, _∙_}
+use mathlib.Core.Bool.{true, false}
+use Prim.Native.Nat.{ℕ, _≤_}
+use native.Mathlib.Omega.{arith}
+use borrow.Author.Needs.{needs}
+use borrow.Author.Tests.{not-true, not-false}
+use lib.ListN.{length}
+use Rattle.message.specs.Answer.{rightLengths}
+use Rattle.message.specs.Word.{wordOf, wordFrom, lowerNumber}
+use Rattle.message.specs.declared.Packed.{Packed}
+use Rattle.message.proofs.CharacterLaws.{none-bad}
+use Rattle.message.proofs.PowerLaws.{legal-by-index, illegal-by-index, legal-power-end}
+use Rattle.message.proofs.WordLaws.{callsignNumber-below, locatorNumber-below}
+use Rattle.message.proofs.RoundTripLaws.{Legal, lengths-of-right, legal-message, packed-length, packed-character, packed-power, packed-word, unpack-pack}
+use borrow.Author.Needs.{needs}
+use Rattle.message.proofs.pack.Statement.{statement}
+use Rattle.message.proofs.pack.Tie as tie
+use Rattle.message.proofs.pack.Reads as reads
+use Rattle.message.proofs.pack.Lts as lts
+use Rattle.message.proofs.character.first_bad_of.Reads as first-bad-of-reads
+use Rattle.message.proofs.power.index_of.Reads as index-of-reads
+use Rattle.message.proofs.right_lengths.Reads as right-lengths-reads
+use Rattle.message.proofs.word.assemble.Reads as assemble-reads
+use Rattle.message.proofs.word.number_of_callsign.Reads as number-of-callsign-reads
+use Rattle.message.proofs.word.number_of_locator.Reads as number-of-locator-reads
+
+-- Past the first test both lengths are right.
+right : (c : tie.Else1) → rightLengths (c .before .before .before .before .args .callsign .now) (c .before .before .before .before .args .locator .now) ≡ true
+unfolding rightLengths
+right c = sym (c .before .right-lengths .ensures) ∙ not-false _ (c .if1 .left)
+
+-- Past all tests the message is legal.
+legal : (c : tie.Else3) → let a = c .before .before .before .before .before .before .before .before .args in
+    Legal (a .callsign .now) (a .locator .now) (a .power)
+legal c =
+    let e = c .before .before .before .before in
+    legal-message _ _ _ (right e) (omega arith) (legal-by-index _ (omega arith))
+
+right-lengths-requires : tie.Need-right-lengths-requires
+right-lengths-requires c κs = search needs
+
+returns : tie.Need-returns
+unfolding rightLengths
+returns c =
+    let a = c .before .before .before .before .args in
+    (sym (packed-length (a .callsign .now) (a .locator .now) (a .power) (sym (c .before .right-lengths .ensures) ∙ not-true _ (c .if1 .taken))), tt)
+
+first-bad-of-requires : tie.Need-first-bad-of-requires
+first-bad-of-requires c κs =
+    let a = c .before .before .before .before .args in
+    lengths-of-right (a .callsign .now) (a .locator .now) (right c)
+
+cast-t12 : tie.Need-cast-t12
+cast-t12 c = search needs
+
+returns-2 : tie.Need-returns-2
+returns-2 c =
+    let e = c .before .before in
+    let a = e .before .before .before .before .args in
+    (sym (packed-character (a .callsign .now) (a .locator .now) (a .power) (right e) _ (sym (c .before .first-bad-of .ensures)) (c .if2 .taken)), tt)
+
+index-of-requires : tie.Need-index-of-requires
+index-of-requires c κs = search needs
+
+returns-3 : tie.Need-returns-3
+returns-3 c =
+    let e = c .before .before .before .before in
+    let a = e .before .before .before .before .args in
+    (sym (packed-power (a .callsign .now) (a .locator .now) (a .power) (right e) (omega arith) (illegal-by-index _ (omega arith))), tt)
+
+number-of-callsign-requires : tie.Need-number-of-callsign-requires
+number-of-callsign-requires c κs =
+    let l = legal c in
+    (l .six, omega (arith, none-bad 0 _ (l .callsign-legal)))
+
+number-of-locator-requires : tie.Need-number-of-locator-requires
+number-of-locator-requires c κs =
+    let l = legal (c .before) in
+    (l .four, omega (arith, none-bad 6 _ (l .locator-legal)))
+
+assemble-requires : tie.Need-assemble-requires
+assemble-requires c κs =
+    let l = legal (c .before .before) in
+    omega (arith, callsignNumber-below _ (l .six) (l .callsign-legal), locatorNumber-below _ (l .four) (l .locator-legal), legal-power-end _ (l .power-legal))
+
+returns-4 : tie.Need-returns-4
+unfolding wordOf
+returns-4 c =
+    let e = c .before .before .before .before .before .before .before in
+    let a = e .before .before .before .before .args in
+    let l = legal (c .before .before .before) in
+    let callsign = c .before .before .number-of-callsign .ensures in
+    let locator = c .before .number-of-locator .ensures in
+    let word : c .assemble .result ≡ wordOf (a .callsign .now) (a .locator .now) (a .power) = cc (c .assemble .ensures) in
+    let made = packed-word (a .callsign .now) (a .locator .now) (a .power) (right e) (omega arith) (l .power-legal) ∙ ap Packed.Word (sym word) in
+    (sym made, unpack-pack _ _ _ _ made)
+
+pub pack-spec : {M : Type 1} → statement M
+pack-spec =
+    tie.close
+    (tie.spec
+    right-lengths-requires
+    returns
+    first-bad-of-requires
+    cast-t12
+    returns-2
+    index-of-requires
+    returns-3
+    number-of-callsign-requires
+    number-of-locator-requires
+    assemble-requires
+    returns-4)

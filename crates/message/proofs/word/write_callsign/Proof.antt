@@ -1,0 +1,58 @@
+-- `message::word::write_callsign` meets its contract: `radix::unpack` gives digits that are below the sizes of their sets, and
+-- `write_characters` writes their characters.
+-- Assumes nothing.
+use mathlib.Core.Path.{_≡_, refl, sym, ap, _∙_}
+use native.Mathlib.Omega.{arith}
+use Rattle.radix.specs.Numeral.{digitsOf}
+use Rattle.message.specs.Character.{charactersFrom}
+use Rattle.message.specs.Word.{callsignRadices, callsignAt}
+use Rattle.message.proofs.WordLaws.{callsign-positive, callsign-digits-at}
+use borrow.Author.Needs.{needs}
+use Rattle.message.proofs.word.write_callsign.Statement.{statement}
+use Rattle.message.proofs.word.write_callsign.Tie as tie
+use Rattle.message.proofs.word.write_callsign.Reads as reads
+use Rattle.message.proofs.word.write_callsign.Lts as lts
+use Rattle.message.proofs.character.write_characters.Reads as write-characters-reads
+use Rattle.radix.proofs.unpack.Reads as unpack-reads
+
+slice-aggregate-unpack : tie.Need-slice-aggregate-unpack
+slice-aggregate-unpack c = search needs
+
+slice-aggregate-unpack-2 : tie.Need-slice-aggregate-unpack-2
+slice-aggregate-unpack-2 c = search needs
+
+unpack-requires : tie.Need-unpack-requires
+unfolding callsignRadices
+unpack-requires c κs = (callsign-positive, refl)
+
+slice-aggregate-write-characters : tie.Need-slice-aggregate-write-characters
+slice-aggregate-write-characters c = search needs
+
+write-characters-requires : tie.Need-write-characters-requires
+unfolding callsignRadices digitsOf
+write-characters-requires c κs =
+    let u = c .before .before .before in
+    let a = u .before .before .before .before in
+    rw (u .unpack .ensures .1) (omega (arith, a .pre), (sym (a .pre), callsign-digits-at (a .args .number)))
+
+same-length : tie.Need-same-length
+same-length c = search needs
+
+returns : tie.Need-returns
+unfolding callsignRadices callsignAt
+returns c =
+    let w = c .before .before in
+    let u = w .before .before .before .before in
+    w .write-characters .ensures ∙ ap (charactersFrom 0) (u .unpack .ensures .1)
+
+pub write-callsign-spec : {M : Type 1} → statement M
+write-callsign-spec =
+    tie.close
+    (tie.spec
+    slice-aggregate-unpack
+    slice-aggregate-unpack-2
+    unpack-requires
+    slice-aggregate-write-characters
+    write-characters-requires
+    same-length
+    returns)

@@ -1,0 +1,97 @@
+-- `message::word::write_locator` meets its contract: `radix::unpack` gives the digits, whose turned values are below the sizes of their
+-- sets, and `write_characters` writes their characters.
+-- Assumes nothing.
+use mathlib.Core.Path.{_≡_, refl, sym, ap, _∙_}
+use native.Mathlib.Omega.{arith}
+use Prim.Native.Nat.{ℕ, _<_}
+use mathlib.Core.List.{List}
+use lib.ListN.{getD}
+use Rattle.radix.specs.Numeral.{Digits, digitsOf}
+use Rattle.radix.proofs.Laws.{digits-in-range}
+use Rattle.message.specs.Character.{charactersFrom}
+use Rattle.message.specs.Word.{locatorRadices, locatorValues, locatorAt}
+use Rattle.message.proofs.WordLaws.{locator-positive, locator-values-at}
+use borrow.Author.Needs.{needs}
+use Rattle.message.proofs.word.write_locator.Statement.{statement}
+use Rattle.message.proofs.word.write_locator.Tie as tie
+use Rattle.message.proofs.word.write_locator.Reads as reads
+use Rattle.message.proofs.word.write_locator.Lts as lts
+use Rattle.message.proofs.character.write_characters.Reads as write-characters-reads
+use Rattle.radix.proofs.unpack.Reads as unpack-reads
+
+-- The digits that were unpacked are below their radices.
+in-range : (c : tie.After-unpack) → (getD (c .unpack .last .1 .1 .0) 0 0 < 18) × (getD (c .unpack .last .1 .1 .0) 1 0 < 10)
+unfolding Digits digitsOf locatorRadices
+in-range c =
+    let d = digits-in-range locatorRadices (c .before .before .before .before .args .number) locator-positive in
+    rw (c .unpack .ensures .1) (d .0, d .1 .0)
+
+slice-aggregate-unpack : tie.Need-slice-aggregate-unpack
+slice-aggregate-unpack c = search needs
+
+slice-aggregate-unpack-2 : tie.Need-slice-aggregate-unpack-2
+slice-aggregate-unpack-2 c = search needs
+
+unpack-requires : tie.Need-unpack-requires
+unfolding locatorRadices
+unpack-requires c κs = (locator-positive, refl)
+
+array-read-t6 : tie.Need-array-read-t6
+array-read-t6 c = search needs
+
+sub-t13 : tie.Need-sub-t13
+sub-t13 c =
+    let d = in-range (c .before) in
+    omega arith
+
+array-read-t16 : tie.Need-array-read-t16
+array-read-t16 c = search needs
+
+array-read-t19 : tie.Need-array-read-t19
+array-read-t19 c = search needs
+
+sub-t20 : tie.Need-sub-t20
+sub-t20 c =
+    let d = in-range (c .before) in
+    omega arith
+
+array-read-t23 : tie.Need-array-read-t23
+array-read-t23 c = search needs
+
+slice-aggregate-write-characters : tie.Need-slice-aggregate-write-characters
+slice-aggregate-write-characters c = search needs
+
+write-characters-requires : tie.Need-write-characters-requires
+unfolding locatorRadices locatorValues
+write-characters-requires c κs =
+    let u = c .before .before .before in
+    let a = u .before .before .before .before in
+    rw (u .unpack .ensures .1) (omega (arith, a .pre), (sym (a .pre), locator-values-at (a .args .number)))
+
+same-length : tie.Need-same-length
+same-length c = search needs
+
+returns : tie.Need-returns
+unfolding locatorRadices locatorValues locatorAt
+returns c =
+    let w = c .before .before in
+    let u = w .before .before .before .before in
+    w .write-characters .ensures ∙ ap (λ (ds : List ℕ). charactersFrom 6 (locatorValues ds)) (u .unpack .ensures .1)
+
+pub write-locator-spec : {M : Type 1} → statement M
+write-locator-spec =
+    tie.close
+    (tie.spec
+    slice-aggregate-unpack
+    slice-aggregate-unpack-2
+    unpack-requires
+    array-read-t6
+    sub-t13
+    array-read-t16
+    array-read-t19
+    sub-t20
+    array-read-t23
+    slice-aggregate-write-characters
+    write-characters-requires
+    same-length
+    returns)
