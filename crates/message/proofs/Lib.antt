@@ -1,6 +1,7 @@
--- `CharacterLaws`, `PowerLaws`, `WordLaws`: the laws of the definitions of specs/ by subject. `RoundTripLaws`: the promises that
--- packing and unpacking make of each other.
+-- `CharacterLaws`, `PowerLaws`, `WordLaws`, `AnswerLaws`: the laws of the definitions of specs/ by subject. `RoundTripLaws`: what
+-- packing and unpacking promise of each other.
 pub mod CharacterLaws
 pub mod PowerLaws
 pub mod WordLaws
+pub mod AnswerLaws
 pub mod RoundTripLaws

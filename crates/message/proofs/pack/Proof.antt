@@ -14,7 +14,8 @@ use Rattle.message.specs.declared.Packed.{Packed}
 use Rattle.message.proofs.CharacterLaws.{none-bad}
 use Rattle.message.proofs.PowerLaws.{legal-by-index, illegal-by-index, legal-power-end}
 use Rattle.message.proofs.WordLaws.{callsignNumber-below, locatorNumber-below}
-use Rattle.message.proofs.RoundTripLaws.{Legal, lengths-of-right, legal-message, packed-length, packed-character, packed-power, packed-word, unpack-pack}
+use Rattle.message.proofs.AnswerLaws.{Legal, lengths-of-right, legal-message, packed-length, packed-character, packed-power, packed-word}
+use Rattle.message.proofs.RoundTripLaws.{unpack-pack}
 use borrow.Author.Needs.{needs}
 use Rattle.message.proofs.pack.Statement.{statement}
 use Rattle.message.proofs.pack.Tie as tie

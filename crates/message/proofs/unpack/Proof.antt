@@ -11,7 +11,8 @@ use borrow.Author.Tests.{not-true, not-false}
 use Rattle.message.specs.Answer.{rightLengths, wordRead}
 use Rattle.message.specs.Word.{callsignPart, locatorPart, callsignOf, locatorOf}
 use Rattle.message.specs.declared.Unpacked.{Unpacked}
-use Rattle.message.proofs.RoundTripLaws.{lengths-of-right, unpacked-length, unpacked-read, Met, met-refused, met-power}
+use Rattle.message.proofs.AnswerLaws.{lengths-of-right, unpacked-length, unpacked-read}
+use Rattle.message.proofs.RoundTripLaws.{Met, met-refused, met-power}
 use borrow.Author.Needs.{needs}
 use Rattle.message.proofs.unpack.Statement.{statement}
 use Rattle.message.proofs.unpack.Tie as tie

@@ -6,7 +6,7 @@ use native.Mathlib.Omega.{arith}
 use borrow.Author.Tests.{leb-true, leb-false}
 use Rattle.message.specs.Word.{callsignPart, locatorPart, powerPart}
 use Rattle.message.proofs.PowerLaws.{legal-by-index, illegal-by-index}
-use Rattle.message.proofs.RoundTripLaws.{wordRead-callsign, wordRead-locator, wordRead-low, wordRead-illegal, wordRead-power}
+use Rattle.message.proofs.AnswerLaws.{wordRead-callsign, wordRead-locator, wordRead-low, wordRead-illegal, wordRead-power}
 use borrow.Author.Needs.{needs}
 use Rattle.message.proofs.word.read_power.Statement.{statement}
 use Rattle.message.proofs.word.read_power.Tie as tie

@@ -1,0 +1,2 @@
+-- `Agrees`: the bench sheet agrees with the definitions.
+pub mod Agrees

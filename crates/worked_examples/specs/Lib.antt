@@ -1,0 +1,2 @@
+-- `BenchSheet`: the worked examples that are proved.
+pub mod BenchSheet

@@ -1,0 +1,2 @@
+// The worked examples of the bench sheet: one table (specs/BenchSheet.antt) under one statement
+// (proofs/Agrees.antt). No code.

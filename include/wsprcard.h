@@ -1,0 +1,55 @@
+/*
+ * wsprcard: WSPR type 1 messages and their 50-bit words.
+ *
+ * Every call takes any bytes and any numbers, always ends, and either does its job or refuses by the
+ * table below. On success `refusal` and `place` are 0. On a refusal every other number of the result
+ * is 0, and no buffer is written.
+ *
+ * A buffer is a pointer and its length; NULL with length 0 is an empty buffer. Buffers lent to one
+ * call must not overlap, and `length` bytes must be there to be read and written.
+ *
+ *   refusal                                                      place
+ *   1  a buffer hasn't its exact length (callsign 6, locator 4)  0
+ *   2  a character is outside its set                            the first such, 0 to 9
+ *   3  the power isn't one of the 19                             0
+ *   4  the word is 2^50 or more, or its upper 28 bits are        0
+ *      262,177,560 or more
+ *   5  the locator's number in the word is 32,400 or more        0
+ *   6  the word's low seven bits less 64 aren't a legal power    0
+ *
+ * Callsign places 0 to 5: 0 is 0-9, A-Z or space; 1 is 0-9 or A-Z; 2 is 0-9; 3 to 5 are A-Z or
+ * space. Locator places 6 to 9: 6 and 7 are A-R, 8 and 9 are 0-9. Capitals only. The powers are
+ * 0 3 7 10 13 17 20 23 27 30 33 37 40 43 47 50 53 57 60 dBm.
+ */
+#ifndef WSPRCARD_H
+#define WSPRCARD_H
+
+#include <stddef.h>
+#include <stdint.h>
+
+#ifdef __cplusplus
+extern "C" {
+#endif
+
+typedef struct {
+    uint32_t refusal, place;
+    uint64_t word;
+} wspr_word;
+
+typedef struct {
+    uint32_t refusal, place, power;
+} wspr_message;
+
+/* The word of a message. Refusals 1, 2, 3, in that order. */
+wspr_word wspr_pack(const uint8_t *callsign, size_t callsign_len, const uint8_t *locator, size_t locator_len,
+                    uint32_t power);
+
+/* The message of a word: writes its callsign and locator, returns its power. Refusals 1, 4, 5, 6, in that order: 4, 5
+ * and 6 exactly for the words that wspr_pack never makes. */
+wspr_message wspr_unpack(uint64_t word, uint8_t *callsign, size_t callsign_len, uint8_t *locator, size_t locator_len);
+
+#ifdef __cplusplus
+}
+#endif
+
+#endif
