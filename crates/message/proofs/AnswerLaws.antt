@@ -1,9 +1,9 @@
 -- The cases of the definitions of the answers, each by what holds there, and what an answer that is no refusal says of its input.
-use mathlib.Core.Path.{_≡_, refl, sym, ap, _∙_}
+use mathlib.Core.Path.{_≡_, refl, _∙_}
 use Prim.Native.Nat.{ℕ, _-_, _^_, _≤_, _<_}
 use native.Mathlib.Omega.{arith}
 use mathlib.Core.Logic.{_↔_}
-use mathlib.Core.Bool.{Bool, true, false, cond, not, _||_, or-true}
+use mathlib.Core.Bool.{true, false, cond, not, _||_, or-true}
 use mathlib.Core.List.{List, _++_}
 use lib.Dec.{eqb, leb, ltb}
 use lib.ListN.{length}
@@ -12,7 +12,7 @@ use Rattle.basics.proofs.Choice.{and-true, or-false, not-false, cond-passed, by
 use Rattle.refusal.specs.declared.Refusal.{Refusal}
 use Rattle.refusal.specs.Refusals.{refusal, wrongLength, badCharacter, badPower, wordTooLarge, badLocatorNumber, badPowerBits}
 use Rattle.message.specs.Character.{firstBad}
-use Rattle.message.specs.Power.{legalPower}
+use Rattle.power.specs.Powers.{legalPower}
 use Rattle.message.specs.Word.{wordOf, callsignPart, locatorPart, powerPart}
 use Rattle.message.specs.Answer.{rightLengths, packed, wordRead, unpacked, packedNumbers, unpackedNumbers}
 use Rattle.message.specs.RoundTrip.{IsRefused}

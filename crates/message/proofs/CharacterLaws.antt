@@ -1,19 +1,18 @@
 -- Laws of characters: a value by the byte's class and back, legal characters, and digits and characters inverse to each other.
 use mathlib.Core.Path.{_≡_, refl, sym, ap, _∙_, subst}
-use mathlib.Core.Logic.{_↔_}
 use Prim.Native.Nat.{ℕ, zero, suc, _+_, _-_, _≤_, _<_}
-use native.Mathlib.Nat.{add-suc, suc-add, add-zero, add-sub-of-le, add-sub-cancel-left}
+use native.Mathlib.Nat.{add-suc, add-zero, add-sub-of-le, add-sub-cancel-left}
 use native.Mathlib.Omega.{arith}
-use mathlib.Core.Bool.{Bool, true, false, cond, _&&_}
+use mathlib.Core.Bool.{true, false}
 use mathlib.Core.List.{List, [], _∷_, _++_}
-use lib.Dec.{T, eqb, leb, ltb, leb→le}
+use lib.Dec.{leb}
 use native.Mathlib.Numerals.{add-one}
 use lib.ListN.{length, getD, drop, List·getD-map, drop-of-length-le}
 use lib.Seq.{drop-cons}
-use borrow.Author.Tests.{le-leb, lt-leb, lt-ltb, le-ltb, leb-true, leb-false, ltb-true, ltb-false, eq-eqb, ne-eqb, eqb-true}
+use borrow.Author.Tests.{le-leb, lt-leb, lt-ltb, le-ltb, leb-true, ltb-true, ne-eqb}
 use Rattle.radix.specs.Numeral.{Digits}
 use Rattle.basics.proofs.Tables.{every-at}
-use Rattle.basics.proofs.Choice.{and-true, cond-passed, cond-held, by-test, below-or-not, equal-or-not}
+use Rattle.basics.proofs.Choice.{and-true, by-test, below-or-not, equal-or-not}
 use Rattle.message.specs.Character.{between, value, character, CharacterSet, callsignSets, locatorSets, setAt, legalAt, firstBad, digitAt, characterAt, overPlaces, digitsFrom, charactersFrom, DigitsAt}
 
 -- ---- A byte's class

@@ -11,9 +11,9 @@ use Rattle.message.specs.Answer.{rightLengths, packed, wordRead, unpacke
 use Rattle.message.specs.RoundTrip.{ReadsAs, WritesBack, IsRefused, NeverMade, RefusesExactly}
 use Rattle.message.specs.declared.Packed.{Packed}
 use Rattle.message.specs.declared.Unpacked.{Unpacked}
-use Rattle.message.proofs.PowerLaws.{legal-power-end}
+use Rattle.power.proofs.Laws.{legal-power-end}
 use Rattle.message.proofs.WordLaws.{callsignNumber-below, callsignAt-callsignNumber, callsignAt-length, callsignAt-legal, callsignNumber-callsignAt, locatorNumber-below, locatorAt-locatorNumber, locatorAt-length, locatorAt-legal, locatorNumber-locatorAt, callsignPart-word, locatorPart-word, powerPart-word, word-of-parts}
-use Rattle.message.proofs.AnswerLaws.{Legal, right-lengths, packed-word, legal-whole, legal-of-packed, wordRead-power, Readable, readable, unpacked-read}
+use Rattle.message.proofs.AnswerLaws.{right-lengths, packed-word, legal-whole, legal-of-packed, wordRead-power, readable, unpacked-read}
 
 -- ---- The round trips
 

@@ -1,13 +1,13 @@
 -- Laws of the word: the callsign's and the locator's numbers and their characters are inverse to each other, and the word's parts
 -- are those that it was made from.
-use mathlib.Core.Path.{_≡_, refl, sym, ap, _∙_, subst}
-use Prim.Native.Nat.{ℕ, suc, _+_, _-_, _*_, _/_, _%_, _^_, _≤_, _<_}
+use mathlib.Core.Path.{_≡_, refl, sym, _∙_, subst}
+use Prim.Native.Nat.{ℕ, _+_, _-_, _^_, _≤_, _<_}
 use native.Mathlib.Omega.{arith}
 use mathlib.Core.List.{List, [], _∷_}
 use lib.ListN.{length, getD}
 use Rattle.radix.specs.Numeral.{Digits, Positive, count, numberFrom, numberOf, digitsOf}
 use Rattle.radix.proofs.Laws.{number-below, digits-in-range, digitsOf-numberOf, numberOf-digitsOf}
-use Rattle.message.specs.Character.{setAt, callsignSets, locatorSets, DigitsAt, digitsFrom, charactersFrom}
+use Rattle.message.specs.Character.{setAt, callsignSets, locatorSets, DigitsAt, digitsFrom}
 use Rattle.message.specs.Word.{callsignRadices, callsignNumber, locatorNumberOf, locatorNumber, lowerNumber, wordFrom, callsignPart, locatorPart, powerPart, locatorRadices, locatorValues, callsignAt, locatorAt}
 use Rattle.message.proofs.CharacterLaws.{AllLegal, sizesFrom, digits-of-legal, characters-of-digits, legal-of-digits, digits-of-characters, digits-in-sizes, sizes-by-length, length-digitsFrom, length-charactersFrom}
 

@@ -11,7 +11,8 @@ use lib.ListN.{getD}
 abbrev pub between : ℕ → ℕ → ℕ → Bool
 between low high byte = leb low byte && leb byte high
 
--- "Digits count 0-9, letters 10-35, space 36." A byte that is none of these has the value 37, which is in no set.
+-- "Digits count 0-9, letters 10-35, space 36." In ASCII, 0-9 are 48 to 57, A-Z 65 to 90, and the space is 32. A byte that is none of
+-- these has the value 37, which is in no set.
 unfoldable pub value : ℕ → ℕ
 value byte =
     cond (between 48 57 byte) (byte - 48)

@@ -3,7 +3,7 @@ use Prim.Native.Nat.{ℕ, _+_, _-_, _*_, _/_, _%_, _^_}
 use mathlib.Core.List.{List, [], _∷_}
 use lib.ListN.{getD}
 use Rattle.radix.specs.Numeral.{numberOf, digitsOf}
-use Rattle.message.specs.Character.{value, setAt, digitsFrom, charactersFrom}
+use Rattle.message.specs.Character.{digitsFrom, charactersFrom}
 
 -- ---- Writing
 

@@ -1,6 +1,5 @@
 // A WSPR type 1 message (callsign, locator, power) and its 50-bit word, both ways.
 mod character;
-pub mod power;
 mod word;
 
 ghost use mathlib.Core.Path.{_≡_};
@@ -80,6 +79,6 @@ pub fn unpack(word: u64, callsign: &mut [u8], locator: &mut [u8]) -> Unpacked
         return answer;
     };
     word::write_callsign(word >> 22, callsign);
-    word::write_locator(word % (1 << 22) >> 7, locator);
+    word::write_locator((word % (1 << 22)) >> 7, locator);
     Unpacked::Power(power)
 }

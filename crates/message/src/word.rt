@@ -8,7 +8,6 @@ ghost use Rattle.message.specs.Answer.{wordRead};
 use super::Unpacked;
 use super::character::read_digits;
 use super::character::write_characters;
-use super::power::index_of;
 use refusal::BAD_LOCATOR_NUMBER;
 use refusal::BAD_POWER_BITS;
 use refusal::Refusal;
@@ -71,7 +70,7 @@ pub(crate) fn read_power(word: u64) -> Unpacked
         });
     }
     let bits = (lower % 128) as u32;
-    if bits < 64 || 19 <= index_of(bits - 64) {
+    if bits < 64 || 19 <= power::index_of(bits - 64) {
         return Unpacked::Refused(Refusal {
             number: BAD_POWER_BITS,
             place: 0,

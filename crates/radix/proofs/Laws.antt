@@ -2,7 +2,7 @@
 -- written in one list of radices and read in another.
 use mathlib.Core.Path.{_≡_, refl, sym, ap, _∙_, subst}
 use Prim.Native.Nat.{ℕ, suc, _+_, _*_, _/_, _%_, _≤_, _<_}
-use native.Mathlib.Nat.{add-assoc, add-mul, mul-assoc, mul-comm, one-mul, zero-mul, zero-add, mul-pos, mod-lt, mod-eq-of-lt, mod-one, mul-add-div-right, mul-add-mod-self-right, div-add-mod', le-trans, le-refl, div-lt-iff-lt-mul, div-eq-of-lt}
+use native.Mathlib.Nat.{add-assoc, add-mul, mul-assoc, one-mul, zero-mul, zero-add, mul-pos, mod-lt, mod-eq-of-lt, mul-add-div-right, mul-add-mod-self-right, le-trans, div-lt-iff-lt-mul, div-eq-of-lt}
 use native.Mathlib.Omega.{arith}
 use mathlib.Core.List.{List, [], _∷_}
 use lib.ListN.{length}

@@ -1,5 +1,5 @@
 -- One turn of the loops of `pack` and `unpack`, over lists: at an index the lists go on with the radix and the digit there.
-use mathlib.Core.Path.{_≡_, refl, sym, ap, _∙_, subst}
+use mathlib.Core.Path.{_≡_, sym, ap, _∙_}
 use Prim.Native.Nat.{ℕ, zero, suc, _+_, _-_, _*_, _/_, _%_, _^_, _≤_, _<_}
 use native.Mathlib.Nat.{le-of-eq, not-suc-le-zero, mul-le-mul-left, mul-comm, div-one, div-div-eq-div-mul}
 use native.Mathlib.Numerals.{add-one, sub-one}

@@ -3,7 +3,7 @@ use Prim.Native.Nat.{ℕ}
 use Prim.Native.Char.{code}
 use Prim.Native.String.{String, [] as empty, _∷_ as _∷ˢ_}
 use mathlib.Core.List.{List, [], _∷_}
-use Rattle.message.specs.Word.{callsignNumber, locatorNumber, lowerNumber, wordFrom}
+use Rattle.message.specs.Word.{callsignNumber, locatorNumber, lowerNumber}
 
 -- The bytes of a text in ASCII.
 unfoldable pub bytes : String → List ℕ

@@ -4,7 +4,6 @@ use mathlib.Core.Logic.{_↔_}
 use Prim.Native.Nat.{ℕ}
 use native.Mathlib.Omega.{arith}
 use mathlib.Core.List.{List}
-use lib.ListN.{length}
 use Rattle.message.specs.Answer.{packed, unpacked, callsignAfter, locatorAfter, packedNumbers, unpackedNumbers}
 use Rattle.message.specs.RoundTrip.{ReadsBack, WritesBack, IsRefused}
 use Rattle.message.specs.RoundTrip as message-round-trip

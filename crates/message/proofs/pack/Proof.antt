@@ -2,31 +2,21 @@
 -- legal message reads back.
 -- Assumes nothing.
 use mathlib.Core.Path.{_≡_, sym, ap, _∙_}
-use mathlib.Core.Bool.{true, false}
-use Prim.Native.Nat.{ℕ, _≤_}
+use mathlib.Core.Bool.{true}
 use native.Mathlib.Omega.{arith}
 use borrow.Author.Needs.{needs}
 use borrow.Author.Tests.{not-true, not-false}
-use lib.ListN.{length}
 use Rattle.message.specs.Answer.{rightLengths}
-use Rattle.message.specs.Word.{wordOf, wordFrom, lowerNumber}
+use Rattle.message.specs.Word.{wordOf}
 use Rattle.message.specs.declared.Packed.{Packed}
 use Rattle.message.proofs.CharacterLaws.{none-bad}
-use Rattle.message.proofs.PowerLaws.{legal-by-index, illegal-by-index, legal-power-end}
+use Rattle.power.proofs.Laws.{legal-by-index, illegal-by-index, legal-power-end}
 use Rattle.message.proofs.WordLaws.{callsignNumber-below, locatorNumber-below}
 use Rattle.message.proofs.AnswerLaws.{Legal, lengths-of-right, legal-message, packed-length, packed-character, packed-power, packed-word}
 use Rattle.message.proofs.RoundTripLaws.{unpack-pack}
 use borrow.Author.Needs.{needs}
 use Rattle.message.proofs.pack.Statement.{statement}
 use Rattle.message.proofs.pack.Tie as tie
-use Rattle.message.proofs.pack.Reads as reads
-use Rattle.message.proofs.pack.Lts as lts
-use Rattle.message.proofs.character.first_bad_of.Reads as first-bad-of-reads
-use Rattle.message.proofs.power.index_of.Reads as index-of-reads
-use Rattle.message.proofs.right_lengths.Reads as right-lengths-reads
-use Rattle.message.proofs.word.assemble.Reads as assemble-reads
-use Rattle.message.proofs.word.number_of_callsign.Reads as number-of-callsign-reads
-use Rattle.message.proofs.word.number_of_locator.Reads as number-of-locator-reads
 
 -- Past the first test both lengths are right.
 right : (c : tie.Else1) → rightLengths (c .before .before .before .before .args .callsign .now) (c .before .before .before .before .args .locator .now) ≡ true

@@ -3,8 +3,6 @@
 use borrow.Author.Tests.{eq-eqb, ne-eqb}
 use Rattle.message.proofs.right_lengths.Statement.{statement}
 use Rattle.message.proofs.right_lengths.Tie as tie
-use Rattle.message.proofs.right_lengths.Reads as reads
-use Rattle.message.proofs.right_lengths.Lts as lts
 
 returns : tie.Need-returns
 returns c = rw (eq-eqb _ _ (c .if1 .taken))

@@ -1,27 +1,17 @@
 -- `message::unpack` meets its contract: a refusal leaves both buffers alone; else the word's callsign and locator are written, and the
 -- rest follows from the definitions' laws.
 -- Assumes nothing.
-use mathlib.Core.Path.{_≡_, sym, ap, _∙_, subst, subst₂}
-use mathlib.Core.Bool.{true, false}
-use mathlib.Core.List.{List}
-use Prim.Native.Nat.{ℕ}
-use native.Mathlib.Omega.{arith}
+use mathlib.Core.Path.{_≡_, sym, _∙_}
+use mathlib.Core.Bool.{true}
 use borrow.Author.Needs.{needs}
 use borrow.Author.Tests.{not-true, not-false}
-use Rattle.message.specs.Answer.{rightLengths, wordRead}
+use Rattle.message.specs.Answer.{rightLengths}
 use Rattle.message.specs.Word.{callsignPart, locatorPart, callsignOf, locatorOf}
-use Rattle.message.specs.declared.Unpacked.{Unpacked}
 use Rattle.message.proofs.AnswerLaws.{lengths-of-right, unpacked-length, unpacked-read}
-use Rattle.message.proofs.RoundTripLaws.{Met, met-refused, met-power}
+use Rattle.message.proofs.RoundTripLaws.{met-refused, met-power}
 use borrow.Author.Needs.{needs}
 use Rattle.message.proofs.unpack.Statement.{statement}
 use Rattle.message.proofs.unpack.Tie as tie
-use Rattle.message.proofs.unpack.Reads as reads
-use Rattle.message.proofs.unpack.Lts as lts
-use Rattle.message.proofs.right_lengths.Reads as right-lengths-reads
-use Rattle.message.proofs.word.read_power.Reads as read-power-reads
-use Rattle.message.proofs.word.write_callsign.Reads as write-callsign-reads
-use Rattle.message.proofs.word.write_locator.Reads as write-locator-reads
 
 -- Past the first test both lengths are right.
 right : (c : tie.Else1) → rightLengths (c .before .before .before .before .args .callsign .now) (c .before .before .before .before .args .locator .now) ≡ true

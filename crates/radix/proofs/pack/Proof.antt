@@ -4,16 +4,12 @@
 use mathlib.Core.Path.{_≡_, refl, sym, _∙_}
 use Prim.Native.Nat.{_-_, _≤_}
 use native.Mathlib.Omega.{arith}
-use borrow.Author.Needs.{needs}
 use lib.ListN.{length, drop}
-use lib.Seq.{drop-length}
 use Rattle.radix.specs.Numeral.{numberFrom, numberOf}
 use Rattle.radix.proofs.Laws.{digits-length}
 use Rattle.radix.proofs.Steps.{pack-turn, pack-fits, pack-ends}
 use Rattle.radix.proofs.pack.Statement.{statement}
 use Rattle.radix.proofs.pack.Tie as tie
-use Rattle.radix.proofs.pack.Reads as reads
-use Rattle.radix.proofs.pack.Lts as lts
 
 abbrev Inv-loop : tie.InvT-loop
 Inv-loop radices digits number₀ i₀ number i =

@@ -1,20 +1,12 @@
 -- `radix::unpack` meets its contract. The loop's invariant: the digits from i on are those of the number, and what is left is its
 -- quotient by the radices from i on. The measure is i.
 -- Assumes nothing.
-use mathlib.Core.Path.{_≡_, refl, sym, ap, _∙_}
-use Prim.Native.Nat.{ℕ, suc, _-_, _/_, _≤_}
-use native.Mathlib.Nat.{div-one}
+use mathlib.Core.Path.{_≡_}
+use Prim.Native.Nat.{_-_}
 use native.Mathlib.Omega.{arith}
-use borrow.Author.Needs.{needs}
-use mathlib.Core.List.{List}
-use lib.ListN.{length, drop, length-set}
-use lib.Seq.{drop-length}
-use Rattle.radix.specs.Numeral.{count, digitsOf}
 use Rattle.radix.proofs.Steps.{Unpacking, positive-at, unpack-starts, unpack-turn}
 use Rattle.radix.proofs.unpack.Statement.{statement}
 use Rattle.radix.proofs.unpack.Tie as tie
-use Rattle.radix.proofs.unpack.Reads as reads
-use Rattle.radix.proofs.unpack.Lts as lts
 
 abbrev Inv-loop : tie.InvT-loop
 Inv-loop number radices digits₀ rest₀ i₀ digits rest i =

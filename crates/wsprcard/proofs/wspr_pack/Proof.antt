@@ -6,9 +6,6 @@ use Rattle.wsprcard.proofs.MessageResults.{word-met}
 use borrow.Author.Needs.{needs}
 use Rattle.wsprcard.proofs.wspr_pack.Statement.{statement}
 use Rattle.wsprcard.proofs.wspr_pack.Tie as tie
-use Rattle.wsprcard.proofs.wspr_pack.Reads as reads
-use Rattle.wsprcard.proofs.wspr_pack.Lts as lts
-use Rattle.message.proofs.pack.Reads as pack-reads
 
 pack-requires : tie.Need-pack-requires
 pack-requires c κs = search needs

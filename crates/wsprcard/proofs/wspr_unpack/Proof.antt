@@ -6,9 +6,6 @@ use Rattle.wsprcard.proofs.MessageResults.{message-met}
 use borrow.Author.Needs.{needs}
 use Rattle.wsprcard.proofs.wspr_unpack.Statement.{statement}
 use Rattle.wsprcard.proofs.wspr_unpack.Tie as tie
-use Rattle.wsprcard.proofs.wspr_unpack.Reads as reads
-use Rattle.wsprcard.proofs.wspr_unpack.Lts as lts
-use Rattle.message.proofs.unpack.Reads as unpack-reads
 
 unpack-requires : tie.Need-unpack-requires
 unpack-requires c κs = search needs

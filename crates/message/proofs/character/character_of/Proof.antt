@@ -5,8 +5,6 @@ use Rattle.message.proofs.CharacterLaws.{character-digit, character-let
 use borrow.Author.Needs.{needs}
 use Rattle.message.proofs.character.character_of.Statement.{statement}
 use Rattle.message.proofs.character.character_of.Tie as tie
-use Rattle.message.proofs.character.character_of.Reads as reads
-use Rattle.message.proofs.character.character_of.Lts as lts
 
 cast-result : tie.Need-cast-result
 cast-result c = search needs

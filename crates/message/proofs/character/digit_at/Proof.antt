@@ -5,10 +5,6 @@ use Rattle.message.specs.Character.{digitAt}
 use borrow.Author.Needs.{needs}
 use Rattle.message.proofs.character.digit_at.Statement.{statement}
 use Rattle.message.proofs.character.digit_at.Tie as tie
-use Rattle.message.proofs.character.digit_at.Reads as reads
-use Rattle.message.proofs.character.digit_at.Lts as lts
-use Rattle.message.proofs.character.lowest_at.Reads as lowest-at-reads
-use Rattle.message.proofs.character.value_of.Reads as value-of-reads
 
 value-of-requires : tie.Need-value-of-requires
 value-of-requires c κs = search needs

@@ -11,9 +11,6 @@ use Rattle.message.specs.Character.{firstBad}
 use Rattle.message.proofs.CharacterLaws.{search-bad, search-legal, search-over}
 use Rattle.message.proofs.character.first_bad.Statement.{statement}
 use Rattle.message.proofs.character.first_bad.Tie as tie
-use Rattle.message.proofs.character.first_bad.Reads as reads
-use Rattle.message.proofs.character.first_bad.Lts as lts
-use Rattle.message.proofs.character.is_legal_at.Reads as is-legal-at-reads
 
 abbrev Inv-loop : tie.InvT-loop
 Inv-loop start bytes i₀ i = (i ≤ length bytes) × (firstBad (start + i) (drop i bytes) ≡ firstBad start bytes)

@@ -1,15 +1,11 @@
 -- `message::character::first_bad_of` meets its contract: the first bad place of the callsign, or else of the locator.
 -- Assumes nothing.
-use mathlib.Core.Path.{_≡_, sym, _∙_}
+use mathlib.Core.Path.{sym, _∙_}
 use native.Mathlib.Omega.{arith}
-use Rattle.message.specs.Character.{firstBad}
 use Rattle.message.proofs.CharacterLaws.{all-legal, firstBad-append, firstBad-first}
 use borrow.Author.Needs.{needs}
 use Rattle.message.proofs.character.first_bad_of.Statement.{statement}
 use Rattle.message.proofs.character.first_bad_of.Tie as tie
-use Rattle.message.proofs.character.first_bad_of.Reads as reads
-use Rattle.message.proofs.character.first_bad_of.Lts as lts
-use Rattle.message.proofs.character.first_bad.Reads as first-bad-reads
 
 first-bad-requires : tie.Need-first-bad-requires
 first-bad-requires c κs = search needs

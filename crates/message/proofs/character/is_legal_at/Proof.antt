@@ -1,6 +1,5 @@
 -- `message::character::is_legal_at` meets its contract: its two tests are the definition's.
 -- Assumes nothing.
-use mathlib.Core.Path.{_≡_}
 use Prim.Native.Nat.{_≤_, _<_}
 use native.Mathlib.Omega.{arith}
 use borrow.Author.Tests.{le-leb, lt-leb}
@@ -9,11 +8,6 @@ use Rattle.message.proofs.CharacterLaws.{set-end}
 use borrow.Author.Needs.{needs}
 use Rattle.message.proofs.character.is_legal_at.Statement.{statement}
 use Rattle.message.proofs.character.is_legal_at.Tie as tie
-use Rattle.message.proofs.character.is_legal_at.Reads as reads
-use Rattle.message.proofs.character.is_legal_at.Lts as lts
-use Rattle.message.proofs.character.lowest_at.Reads as lowest-at-reads
-use Rattle.message.proofs.character.size_at.Reads as size-at-reads
-use Rattle.message.proofs.character.value_of.Reads as value-of-reads
 
 value-of-requires : tie.Need-value-of-requires
 value-of-requires c κs = search needs

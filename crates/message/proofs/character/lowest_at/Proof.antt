@@ -5,8 +5,6 @@ use Rattle.message.proofs.CharacterLaws.{lowest-table}
 use borrow.Author.Needs.{needs}
 use Rattle.message.proofs.character.lowest_at.Statement.{statement}
 use Rattle.message.proofs.character.lowest_at.Tie as tie
-use Rattle.message.proofs.character.lowest_at.Reads as reads
-use Rattle.message.proofs.character.lowest_at.Lts as lts
 
 mul-result : tie.Need-mul-result
 mul-result c = search needs

@@ -1,18 +1,14 @@
 -- `message::character::read_digits` meets its contract: the loop fills the digits one by one.
 -- Assumes nothing.
-use mathlib.Core.Path.{_≡_, sym, _∙_}
-use Prim.Native.Nat.{_+_, _-_}
+use mathlib.Core.Path.{sym, _∙_}
+use Prim.Native.Nat.{_-_}
 use native.Mathlib.Omega.{arith}
-use borrow.Author.Needs.{needs}
 use lib.ListN.{length}
 use Rattle.basics.proofs.Filling.{Filling, fill-starts, fill-turn, fill-ends}
 use Rattle.message.specs.Character.{digitsFrom}
 use Rattle.message.proofs.CharacterLaws.{length-digitsFrom, getD-digitsFrom}
 use Rattle.message.proofs.character.read_digits.Statement.{statement}
 use Rattle.message.proofs.character.read_digits.Tie as tie
-use Rattle.message.proofs.character.read_digits.Reads as reads
-use Rattle.message.proofs.character.read_digits.Lts as lts
-use Rattle.message.proofs.character.digit_at.Reads as digit-at-reads
 
 abbrev Inv-loop : tie.InvT-loop
 Inv-loop start bytes digits₀ i₀ digits i = Filling (digitsFrom start bytes) digits i

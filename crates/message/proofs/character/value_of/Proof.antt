@@ -7,8 +7,6 @@ use Rattle.message.proofs.CharacterLaws.{value-digit, value-letter, val
 use borrow.Author.Needs.{needs}
 use Rattle.message.proofs.character.value_of.Statement.{statement}
 use Rattle.message.proofs.character.value_of.Tie as tie
-use Rattle.message.proofs.character.value_of.Reads as reads
-use Rattle.message.proofs.character.value_of.Lts as lts
 
 cast-result : tie.Need-cast-result
 cast-result c = search needs

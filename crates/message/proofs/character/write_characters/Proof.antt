@@ -1,19 +1,15 @@
 -- `message::character::write_characters` meets its contract: the loop fills the characters one by one.
 -- Assumes nothing.
-use mathlib.Core.Path.{_≡_, sym, ap, _∙_}
+use mathlib.Core.Path.{sym, ap, _∙_}
 use Prim.Native.Nat.{_+_, _-_}
 use native.Mathlib.Omega.{arith}
 use borrow.Author.Needs.{needs}
-use lib.ListN.{length, getD}
+use lib.ListN.{length}
 use Rattle.basics.proofs.Filling.{Filling, fill-starts, fill-turn, fill-ends}
 use Rattle.message.specs.Character.{charactersFrom, characterAt, character}
 use Rattle.message.proofs.CharacterLaws.{length-charactersFrom, getD-charactersFrom, digit-below, set-end}
 use Rattle.message.proofs.character.write_characters.Statement.{statement}
 use Rattle.message.proofs.character.write_characters.Tie as tie
-use Rattle.message.proofs.character.write_characters.Reads as reads
-use Rattle.message.proofs.character.write_characters.Lts as lts
-use Rattle.message.proofs.character.character_of.Reads as character-of-reads
-use Rattle.message.proofs.character.lowest_at.Reads as lowest-at-reads
 
 abbrev Inv-loop : tie.InvT-loop
 Inv-loop start digits bytes₀ i₀ bytes i = Filling (charactersFrom start digits) bytes i

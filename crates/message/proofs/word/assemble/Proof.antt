@@ -8,8 +8,6 @@ use Rattle.message.specs.Word.{wordFrom, lowerNumber}
 use borrow.Author.Needs.{needs}
 use Rattle.message.proofs.word.assemble.Statement.{statement}
 use Rattle.message.proofs.word.assemble.Tie as tie
-use Rattle.message.proofs.word.assemble.Reads as reads
-use Rattle.message.proofs.word.assemble.Lts as lts
 
 mul-lower : tie.Need-mul-lower
 mul-lower c = search needs

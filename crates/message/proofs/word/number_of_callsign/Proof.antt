@@ -1,19 +1,15 @@
 -- `message::word::number_of_callsign` meets its contract: the digits of legal characters are below the radices, and `radix::pack` packs
 -- them.
 -- Assumes nothing.
-use mathlib.Core.Path.{_≡_, ap, _∙_}
+use mathlib.Core.Path.{ap, _∙_}
 use native.Mathlib.Omega.{arith}
-use Rattle.radix.specs.Numeral.{count, numberOf}
+use Rattle.radix.specs.Numeral.{numberOf}
 use Rattle.message.specs.Word.{callsignRadices, callsignNumber}
 use Rattle.message.proofs.CharacterLaws.{all-legal}
 use Rattle.message.proofs.WordLaws.{callsign-count, callsign-digits}
 use borrow.Author.Needs.{needs}
 use Rattle.message.proofs.word.number_of_callsign.Statement.{statement}
 use Rattle.message.proofs.word.number_of_callsign.Tie as tie
-use Rattle.message.proofs.word.number_of_callsign.Reads as reads
-use Rattle.message.proofs.word.number_of_callsign.Lts as lts
-use Rattle.message.proofs.character.read_digits.Reads as read-digits-reads
-use Rattle.radix.proofs.pack.Reads as pack-reads
 
 slice-aggregate-read-digits : tie.Need-slice-aggregate-read-digits
 slice-aggregate-read-digits c = search needs

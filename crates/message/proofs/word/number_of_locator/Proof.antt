@@ -1,22 +1,17 @@
 -- `message::word::number_of_locator` meets its contract: the turned values of legal characters are below the radices, and the number that
 -- `radix::pack` makes of them is that of the definition's formula.
 -- Assumes nothing.
-use mathlib.Core.Path.{_≡_, sym, ap, _∙_}
+use mathlib.Core.Path.{sym, ap, _∙_}
 use native.Mathlib.Omega.{arith}
 use mathlib.Core.List.{List}
 use Prim.Native.Nat.{ℕ}
-use Rattle.radix.specs.Numeral.{count, numberOf}
-use Rattle.message.specs.Character.{digitsFrom}
-use Rattle.message.specs.Word.{locatorRadices, locatorNumber}
+use Rattle.radix.specs.Numeral.{numberOf}
+use Rattle.message.specs.Word.{locatorRadices}
 use Rattle.message.proofs.CharacterLaws.{all-legal}
 use Rattle.message.proofs.WordLaws.{Values, locatorDigits, locator-count, locator-values, locator-digits, locatorNumber-digits}
 use borrow.Author.Needs.{needs}
 use Rattle.message.proofs.word.number_of_locator.Statement.{statement}
 use Rattle.message.proofs.word.number_of_locator.Tie as tie
-use Rattle.message.proofs.word.number_of_locator.Reads as reads
-use Rattle.message.proofs.word.number_of_locator.Lts as lts
-use Rattle.message.proofs.character.read_digits.Reads as read-digits-reads
-use Rattle.radix.proofs.pack.Reads as pack-reads
 
 -- The values that were read are below the sizes of their sets.
 values-in-range : (c : tie.After-read-digits) → Values (c .read-digits .last .1 .1 .0)

@@ -5,14 +5,11 @@ use mathlib.Core.Logic.{⊎-elim}
 use native.Mathlib.Omega.{arith}
 use borrow.Author.Tests.{leb-true, leb-false}
 use Rattle.message.specs.Word.{callsignPart, locatorPart, powerPart}
-use Rattle.message.proofs.PowerLaws.{legal-by-index, illegal-by-index}
+use Rattle.power.proofs.Laws.{legal-by-index, illegal-by-index}
 use Rattle.message.proofs.AnswerLaws.{wordRead-callsign, wordRead-locator, wordRead-low, wordRead-illegal, wordRead-power}
 use borrow.Author.Needs.{needs}
 use Rattle.message.proofs.word.read_power.Statement.{statement}
 use Rattle.message.proofs.word.read_power.Tie as tie
-use Rattle.message.proofs.word.read_power.Reads as reads
-use Rattle.message.proofs.word.read_power.Lts as lts
-use Rattle.message.proofs.power.index_of.Reads as index-of-reads
 
 returns : tie.Need-returns
 unfolding callsignPart

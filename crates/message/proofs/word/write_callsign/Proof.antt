@@ -1,7 +1,7 @@
 -- `message::word::write_callsign` meets its contract: `radix::unpack` gives digits that are below the sizes of their sets, and
 -- `write_characters` writes their characters.
 -- Assumes nothing.
-use mathlib.Core.Path.{_≡_, refl, sym, ap, _∙_}
+use mathlib.Core.Path.{refl, sym, ap, _∙_}
 use native.Mathlib.Omega.{arith}
 use Rattle.radix.specs.Numeral.{digitsOf}
 use Rattle.message.specs.Character.{charactersFrom}
@@ -10,10 +10,6 @@ use Rattle.message.proofs.WordLaws.{callsign-positive, callsign-digits-
 use borrow.Author.Needs.{needs}
 use Rattle.message.proofs.word.write_callsign.Statement.{statement}
 use Rattle.message.proofs.word.write_callsign.Tie as tie
-use Rattle.message.proofs.word.write_callsign.Reads as reads
-use Rattle.message.proofs.word.write_callsign.Lts as lts
-use Rattle.message.proofs.character.write_characters.Reads as write-characters-reads
-use Rattle.radix.proofs.unpack.Reads as unpack-reads
 
 slice-aggregate-unpack : tie.Need-slice-aggregate-unpack
 slice-aggregate-unpack c = search needs

@@ -1,7 +1,7 @@
 -- `message::word::write_locator` meets its contract: `radix::unpack` gives the digits, whose turned values are below the sizes of their
 -- sets, and `write_characters` writes their characters.
 -- Assumes nothing.
-use mathlib.Core.Path.{_≡_, refl, sym, ap, _∙_}
+use mathlib.Core.Path.{refl, sym, ap, _∙_}
 use native.Mathlib.Omega.{arith}
 use Prim.Native.Nat.{ℕ, _<_}
 use mathlib.Core.List.{List}
@@ -14,10 +14,6 @@ use Rattle.message.proofs.WordLaws.{locator-positive, locator-values-at
 use borrow.Author.Needs.{needs}
 use Rattle.message.proofs.word.write_locator.Statement.{statement}
 use Rattle.message.proofs.word.write_locator.Tie as tie
-use Rattle.message.proofs.word.write_locator.Reads as reads
-use Rattle.message.proofs.word.write_locator.Lts as lts
-use Rattle.message.proofs.character.write_characters.Reads as write-characters-reads
-use Rattle.radix.proofs.unpack.Reads as unpack-reads
 
 -- The digits that were unpacked are below their radices.
 in-range : (c : tie.After-unpack) → (getD (c .unpack .last .1 .1 .0) 0 0 < 18) × (getD (c .unpack .last .1 .1 .0) 1 0 < 10)

@@ -1,15 +1,15 @@
 -- Laws of the powers: a legal power and its index are inverse to each other, and none is above 60.
-use mathlib.Core.Path.{_≡_, refl, sym, ap, _∙_}
+use mathlib.Core.Path.{_≡_, refl, sym, ap}
 use Prim.Native.Nat.{ℕ, suc, _≤_, _<_}
 use native.Mathlib.Omega.{arith}
-use mathlib.Core.Bool.{Bool, true, false, cond}
+use mathlib.Core.Bool.{true, false}
 use mathlib.Core.List.{List, [], _∷_}
-use lib.Dec.{eqb, leb, ltb}
+use lib.Dec.{eqb, leb}
 use lib.ListN.{length, getD, List·getD-eq-default}
 use borrow.Author.Tests.{ltb-true, lt-ltb, le-ltb, leb-true, eqb-true, eq-eqb, ne-eqb}
 use Rattle.basics.proofs.Choice.{equal-or-not, below-or-not}
 use Rattle.basics.proofs.Tables.{every-at, below-at}
-use Rattle.message.specs.Power.{powers, indexIn, powerIndex, powerAt, legalPower}
+use Rattle.power.specs.Powers.{powers, indexIn, powerIndex, powerAt, legalPower}
 
 -- What stands at a number's index is the number.
 getD-indexIn : (n : ℕ) (xs : List ℕ) (d : ℕ) → indexIn n xs < length xs → getD xs (indexIn n xs) d ≡ n

@@ -3,7 +3,7 @@ use Prim.Native.Nat.{ℕ, suc}
 use mathlib.Core.Bool.{Bool, cond}
 use mathlib.Core.List.{List, [], _∷_}
 use lib.Dec.{eqb, ltb}
-use lib.ListN.{length, getD}
+use lib.ListN.{getD}
 
 -- "Power is one of 19: 0 3 7 10 13 17 20 23 27 30 33 37 40 43 47 50 53 57 60, with index 0 to 18 in that order."
 unfoldable pub powers : List ℕ

@@ -1,13 +1,11 @@
--- `message::power::index_of` meets its contract: each arm is the definition at its own power, and a power that is none of them has no
+-- `power::index_of` meets its contract: each arm is the definition at its own power, and a power that is none of them has no
 -- index in the list.
 -- Assumes nothing.
-use mathlib.Core.Path.{_≡_, sym, ap}
-use Rattle.message.specs.Power.{powers, indexIn, powerIndex}
-use Rattle.message.proofs.PowerLaws.{indexIn-absent}
-use Rattle.message.proofs.power.index_of.Statement.{statement}
-use Rattle.message.proofs.power.index_of.Tie as tie
-use Rattle.message.proofs.power.index_of.Reads as reads
-use Rattle.message.proofs.power.index_of.Lts as lts
+use mathlib.Core.Path.{sym, ap}
+use Rattle.power.specs.Powers.{powers, indexIn, powerIndex}
+use Rattle.power.proofs.Laws.{indexIn-absent}
+use Rattle.power.proofs.index_of.Statement.{statement}
+use Rattle.power.proofs.index_of.Tie as tie
 
 returns : tie.Need-returns
 unfolding powerIndex powers indexIn

@@ -1,6 +1,6 @@
 // The 19 legal powers, in dBm, and their indexes.
 ghost use mathlib.Core.Path.{_≡_};
-ghost use Rattle.message.specs.Power.{powerIndex, powerAt};
+ghost use Rattle.power.specs.Powers.{powerIndex, powerAt};
 
 // The index of a power, 0 to 18; 19 where it isn't legal.
 pub fn index_of(power: u32) -> u32

@@ -1,13 +1,11 @@
--- `message::power::power_at` meets its contract: each arm is the definition at its own index, and an index that is none of them lies
+-- `power::power_at` meets its contract: each arm is the definition at its own index, and an index that is none of them lies
 -- past the list.
 -- Assumes nothing.
-use mathlib.Core.Path.{_≡_, sym, ap}
-use Rattle.message.specs.Power.{powers, powerAt}
-use Rattle.message.proofs.PowerLaws.{powerAt-absent}
-use Rattle.message.proofs.power.power_at.Statement.{statement}
-use Rattle.message.proofs.power.power_at.Tie as tie
-use Rattle.message.proofs.power.power_at.Reads as reads
-use Rattle.message.proofs.power.power_at.Lts as lts
+use mathlib.Core.Path.{sym, ap}
+use Rattle.power.specs.Powers.{powers, powerAt}
+use Rattle.power.proofs.Laws.{powerAt-absent}
+use Rattle.power.proofs.power_at.Statement.{statement}
+use Rattle.power.proofs.power_at.Tie as tie
 
 returns : tie.Need-returns
 unfolding powerAt powers

@@ -1,0 +1,28 @@
+# What is made goes to target/ (rt), build/ (gcc) and tests/target/ (cargo).
+CFLAGS ?= -O2
+CFLAGS += -std=c11 -Wall -Wextra -Iinclude
+
+.PHONY: run test library clean
+
+# The product at work: a few messages through the C interface.
+run: build/messages
+	./build/messages
+
+# The outside tests, then the gate, whose last line is 'N passed, 0 failed'.
+test: build/messages
+	./build/messages | diff host/messages.stdout -
+	cd tests && cargo test --release --offline
+	rt ci
+
+# rt proves what has changed since the last time, and writes the library only where all is proved.
+library:
+	rt staticlib wsprcard
+
+target/staticlib/libwsprcard.a: library
+
+build/messages: host/messages.c include/wsprcard.h target/staticlib/libwsprcard.a
+	mkdir -p build
+	$(CC) $(CFLAGS) -o $@ host/messages.c target/staticlib/libwsprcard.a
+
+clean:
+	rm -rf target build tests/target
