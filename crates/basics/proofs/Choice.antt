@@ -4,7 +4,8 @@ use Prim.Native.Nat.{ℕ, _≤_, _<_}
 use native.Mathlib.Omega.{arith}
 use mathlib.Core.Bool.{Bool, true, false, cond, not, _&&_, _||_}
 use lib.Dec.{eqb, ltb}
-use borrow.Author.Tests.{ltb-true, ltb-false, eqb-true, eqb-false}
+use Rattle.basics.specs.Test.{between}
+use borrow.Author.Tests.{le-leb, lt-leb, ltb-true, ltb-false, eqb-true, eqb-false}
 
 -- ---- Tests
 
@@ -22,6 +23,15 @@ or-false false b e = (refl, e)
 pub not-false : (t : Bool) → not t ≡ false → t ≡ true
 not-false true e = refl
 not-false false e = absurd (false-is-not-true (sym e))
+
+pub between-true : (low high b : ℕ) → low ≤ b → b ≤ high → between low high b ≡ true
+between-true low high b h k = rw (le-leb low b h, le-leb b high k)
+
+pub between-below : (low high b : ℕ) → b < low → between low high b ≡ false
+between-below low high b h = rw (lt-leb low b h)
+
+pub between-above : (low high b : ℕ) → low ≤ b → high < b → between low high b ≡ false
+between-above low high b h k = rw (le-leb low b h, lt-leb b high k)
 
 -- ---- Choices
 

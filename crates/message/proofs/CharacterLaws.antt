@@ -9,22 +9,13 @@ use lib.Dec.{leb}
 use native.Mathlib.Numerals.{add-one}
 use lib.ListN.{length, getD, drop, List·getD-map, drop-of-length-le}
 use lib.Seq.{drop-cons}
-use borrow.Author.Tests.{le-leb, lt-leb, lt-ltb, le-ltb, leb-true, ltb-true, ne-eqb}
+use borrow.Author.Tests.{le-leb, lt-ltb, le-ltb, leb-true, ltb-true, ne-eqb}
 use Rattle.radix.specs.Numeral.{Digits}
 use Rattle.basics.proofs.Tables.{every-at}
-use Rattle.basics.proofs.Choice.{and-true, by-test, below-or-not, equal-or-not}
-use Rattle.message.specs.Character.{between, value, character, CharacterSet, callsignSets, locatorSets, setAt, legalAt, firstBad, digitAt, characterAt, overPlaces, digitsFrom, charactersFrom, DigitsAt}
+use Rattle.basics.proofs.Choice.{between-true, between-below, between-above, and-true, by-test, below-or-not, equal-or-not}
+use Rattle.message.specs.Character.{value, character, CharacterSet, callsignSets, locatorSets, setAt, legalAt, firstBad, digitAt, characterAt, overPlaces, digitsFrom, charactersFrom, DigitsAt}
 
 -- ---- A byte's class
-
-between-true : (low high b : ℕ) → low ≤ b → b ≤ high → between low high b ≡ true
-between-true low high b h k = rw (le-leb low b h, le-leb b high k)
-
-between-below : (low high b : ℕ) → b < low → between low high b ≡ false
-between-below low high b h = rw (lt-leb low b h)
-
-between-above : (low high b : ℕ) → low ≤ b → high < b → between low high b ≡ false
-between-above low high b h k = rw (le-leb low b h, lt-leb b high k)
 
 pub value-digit : {b : ℕ} → 48 ≤ b → b ≤ 57 → value b ≡ b - 48
 unfolding value

@@ -4,12 +4,9 @@ use mathlib.Core.Bool.{Bool, cond, _&&_}
 use mathlib.Core.List.{List, [], _∷_, _++_}
 use lib.Dec.{eqb, leb, ltb}
 use lib.ListN.{getD}
+use Rattle.basics.specs.Test.{between}
 
 -- ---- Values
-
--- The byte is one from low to high.
-abbrev pub between : ℕ → ℕ → ℕ → Bool
-between low high byte = leb low byte && leb byte high
 
 -- "Digits count 0-9, letters 10-35, space 36." In ASCII, 0-9 are 48 to 57, A-Z 65 to 90, and the space is 32. A byte that is none of
 -- these has the value 37, which is in no set.

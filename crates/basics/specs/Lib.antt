@@ -1,0 +1,2 @@
+-- `Test`: tests on numbers that several layers' definitions make.
+pub mod Test

@@ -1,0 +1,78 @@
+-- Laws of numerals: a digit's value by its byte, one turn of the reading, and the bound of what is read.
+use mathlib.Core.Path.{_≡_}
+use Prim.Native.Nat.{ℕ, suc, _+_, _-_, _*_, _^_, _≤_, _<_}
+use native.Mathlib.Nat.{add-zero, zero-add, le-trans, pow-zero, pow-suc, pow-le-pow-left, pow-le-pow-right}
+use native.Mathlib.Numerals.{add-one}
+use native.Mathlib.Omega.{arith}
+use mathlib.Core.List.{List, [], _∷_}
+use lib.Arith.{digits-lt}
+use lib.Dec.{ltb}
+use lib.ListN.{length, getD, drop, drop-of-length-le}
+use lib.Seq.{drop-cons}
+use borrow.Author.Tests.{lt-ltb, le-ltb, ltb-true}
+use Rattle.basics.proofs.Choice.{cond-held, between-true, between-below, between-above}
+use Rattle.wsjtx_vectors.specs.Number.{digitValue, numberFrom, numberIn}
+use Rattle.wsjtx_vectors.specs.declared.number.Number.{Number}
+
+-- ---- A digit's value
+
+pub value-decimal : {b : ℕ} → 48 ≤ b → b ≤ 57 → digitValue b ≡ b - 48
+unfolding digitValue
+value-decimal {b} h k = rw (between-true 48 57 b h k)
+
+pub value-letter : {b : ℕ} → 97 ≤ b → b ≤ 102 → digitValue b ≡ b - 87
+unfolding digitValue
+value-letter {b} h k = rw (between-above 48 57 b (omega arith) (omega arith), between-true 97 102 b h k)
+
+pub value-below : {b : ℕ} → b < 48 → digitValue b ≡ 16
+unfolding digitValue
+value-below {b} h = rw (between-below 48 57 b h, between-below 97 102 b (omega arith))
+
+pub value-between : {b : ℕ} → 57 < b → b < 97 → digitValue b ≡ 16
+unfolding digitValue
+value-between {b} h k = rw (between-above 48 57 b (omega arith) h, between-below 97 102 b k)
+
+pub value-above : {b : ℕ} → 102 < b → digitValue b ≡ 16
+unfolding digitValue
+value-above {b} h = rw (between-above 48 57 b (omega arith) (omega arith), between-above 97 102 b (omega arith) h)
+
+-- ---- Reading
+
+module _ (base n : ℕ) (numeral : List ℕ) (i : ℕ) (within : i < length numeral) where
+  pub read-digit : digitValue (getD numeral i 0) < base
+      → numberFrom base (n * base + digitValue (getD numeral i 0)) (drop (i + 1) numeral) ≡ numberFrom base n (drop i numeral)
+  unfolding numberFrom
+  read-digit h = rw (drop-cons numeral i 0 within, lt-ltb _ _ h, add-one)
+
+  pub read-other : base ≤ digitValue (getD numeral i 0) → numberFrom base n (drop i numeral) ≡ Number.Malformed
+  unfolding numberFrom
+  read-other h = rw (drop-cons numeral i 0 within, le-ltb _ _ h)
+
+pub read-all : (base n : ℕ) (numeral : List ℕ) (i : ℕ) → length numeral ≤ i → numberFrom base n (drop i numeral) ≡ Number.Value n
+unfolding numberFrom
+read-all base n numeral i h = rw (drop-of-length-le numeral h)
+
+-- ---- Bounds
+
+-- k digits write less than base ^ k.
+pub digit-below : (base n d k : ℕ) → n < base ^ k → d < base → n * base + d < base ^ (k + 1)
+digit-below base n d k h e = rw (add-one, pow-suc) (digits-lt h e)
+
+pub digits-fit : (base k : ℕ) → base ≤ 16 → k ≤ 16 → base ^ k ≤ 2 ^ 64
+digits-fit base k h e = le-trans (pow-le-pow-left h k) (pow-le-pow-right {n = 16} (omega arith) e)
+
+number-from-below : (base n k : ℕ) (ds : List ℕ) (v : ℕ) → n < base ^ k → numberFrom base n ds ≡ Number.Value v → v < base ^ (k + length ds)
+unfolding numberFrom
+number-from-below base n k [] v h e =
+    let same : n ≡ v = cc in
+    rw (add-zero, ← same) h
+number-from-below base n k (d ∷ ds) v h e =
+    let held = cond-held (ltb (digitValue d) base) e (λ other. let z : _≡_ {A = ℕ} 0 1 = cc in omega arith) in
+    let next = digit-below base n (digitValue d) k h (ltb-true (digitValue d) base (held .0)) in
+    let count : k + suc (length ds) ≡ k + 1 + length ds = omega arith in
+    rw count (number-from-below base (n * base + digitValue d) (k + 1) ds v next (held .1))
+
+-- A number is below the base to the power of its digits' count.
+pub number-below : (base : ℕ) (numeral : List ℕ) (v : ℕ) → numberIn base numeral ≡ Number.Value v → v < base ^ length numeral
+unfolding numberIn
+number-below base numeral v e = rw zero-add at (number-from-below base 0 0 numeral v (rw pow-zero (omega arith)) e)

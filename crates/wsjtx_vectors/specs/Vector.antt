@@ -1,0 +1,35 @@
+-- What a line says: callsign|locator|power|word.
+use Prim.Native.Nat.{ℕ, _+_}
+use mathlib.Core.Bool.{Bool, cond, _&&_}
+use mathlib.Core.List.{List}
+use lib.Dec.{eqb}
+use lib.ListN.{length}
+use Rattle.basics.specs.Test.{between}
+use Rattle.wsjtx_vectors.specs.Field.{fieldAt}
+use Rattle.wsjtx_vectors.specs.Number.{numberIn}
+use Rattle.wsjtx_vectors.specs.declared.number.Number.{Number}
+use Rattle.wsjtx_vectors.specs.declared.vector.Vector.{Vector}
+
+-- A callsign of 6 bytes, a locator of 4, and beside the power 26 bytes in all: 6, 4, 13 and three bars.
+unfoldable pub hasForm : List ℕ → Bool
+hasForm line =
+    eqb (length (fieldAt 0 line)) 6
+    && eqb (length (fieldAt 1 line)) 4
+    && eqb (length line) (length (fieldAt 2 line) + 26)
+
+-- 1 or 2 decimal digits
+unfoldable pub powerIn : List ℕ → Number
+powerIn text = cond (between 1 2 (length text)) (numberIn 10 text) Number.Malformed
+
+-- 13 hexadecimal digits
+unfoldable pub wordIn : List ℕ → Number
+wordIn text = cond (eqb (length text) 13) (numberIn 16 text) Number.Malformed
+
+-- Both numbers, or no vector.
+unfoldable pub numbers : Number → Number → Vector
+numbers (Number.Value power) (Number.Value word) = Vector.Numbers power word
+numbers (Number.Value power) Number.Malformed = Vector.Malformed
+numbers Number.Malformed word = Vector.Malformed
+
+unfoldable pub vectorIn : List ℕ → Vector
+vectorIn line = cond (hasForm line) (numbers (powerIn (fieldAt 2 line)) (wordIn (fieldAt 3 line))) Vector.Malformed
