@@ -1,28 +1,20 @@
 -- Laws of `cond` and of tests, for definitions that test and refuse in turn and answer last.
-use mathlib.Core.Path.{_≡_, refl, sym}
+use mathlib.Core.Path.{_≡_, refl}
 use Prim.Native.Nat.{ℕ, _≤_, _<_}
-use native.Mathlib.Omega.{arith}
-use mathlib.Core.Bool.{Bool, true, false, cond, not, _&&_, _||_}
+use mathlib.Core.Bool.{Bool, true, false, true≢false, false≢true, cond, _&&_, _||_}
 use lib.Dec.{eqb, ltb}
 use Rattle.basics.specs.Test.{between}
 use borrow.Author.Tests.{le-leb, lt-leb, ltb-true, ltb-false, eqb-true, eqb-false}
 
 -- ---- Tests
 
-false-is-not-true : false ≡ true → ⊥
-false-is-not-true e = let z : _≡_ {A = ℕ} 0 1 = cc in omega arith
+pub both-true : (a b : Bool) → (a && b) ≡ true → (a ≡ true) × (b ≡ true)
+both-true true b e = (refl, e)
+both-true false b e = absurd (false≢true e)
 
-pub and-true : (a b : Bool) → (a && b) ≡ true → (a ≡ true) × (b ≡ true)
-and-true true b e = (refl, e)
-and-true false b e = absurd (false-is-not-true e)
-
-pub or-false : (a b : Bool) → (a || b) ≡ false → (a ≡ false) × (b ≡ false)
-or-false true b e = absurd (false-is-not-true (sym e))
-or-false false b e = (refl, e)
-
-pub not-false : (t : Bool) → not t ≡ false → t ≡ true
-not-false true e = refl
-not-false false e = absurd (false-is-not-true (sym e))
+pub both-false : (a b : Bool) → (a || b) ≡ false → (a ≡ false) × (b ≡ false)
+both-false true b e = absurd (true≢false e)
+both-false false b e = (refl, e)
 
 pub between-true : (low high b : ℕ) → low ≤ b → b ≤ high → between low high b ≡ true
 between-true low high b h k = rw (le-leb low b h, le-leb b high k)
@@ -52,7 +44,7 @@ module _ {A : Type 0} (t : Bool) {x y z : A} where
       go true e = (refl, e)
       go false e = absurd (other e)
 
--- ---- Two ways to go on
+-- ---- Proof by cases of a test
 
 pub by-test : {A : Type 0} (t : Bool) → (t ≡ true → A) → (t ≡ false → A) → A
 by-test true f g = f refl

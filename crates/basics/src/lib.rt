@@ -1,1 +1,1 @@
-// Laws of tests, choices and tables that the proofs of every layer cite (proofs/). No code.
+// Definitions and laws of tests, choices, tables and filling loops that several layers cite. No code.

@@ -7,14 +7,14 @@ use mathlib.Core.Bool.{true, false, cond, not, _||_, or-true}
 use mathlib.Core.List.{List, _++_}
 use lib.Dec.{eqb, leb, ltb}
 use lib.ListN.{length}
-use borrow.Author.Tests.{le-leb, leb-false, ltb-false, lt-leb, lt-ltb, le-ltb, eqb-true, eq-eqb}
-use Rattle.basics.proofs.Choice.{and-true, or-false, not-false, cond-passed, by-test, below-or-not}
+use borrow.Author.Tests.{not-false, le-leb, leb-false, ltb-false, lt-leb, lt-ltb, le-ltb, eqb-true, eq-eqb}
+use Rattle.basics.proofs.Choice.{both-true, both-false, cond-passed, by-test, below-or-not}
 use Rattle.refusal.specs.declared.Refusal.{Refusal}
 use Rattle.refusal.specs.Refusals.{refusal, wrongLength, badCharacter, badPower, wordTooLarge, badLocatorNumber, badPowerBits}
 use Rattle.message.specs.Character.{firstBad}
 use Rattle.power.specs.Powers.{legalPower}
 use Rattle.message.specs.Word.{wordOf, callsignPart, locatorPart, powerPart}
-use Rattle.message.specs.Answer.{rightLengths, packed, wordRead, unpacked, packedNumbers, unpackedNumbers}
+use Rattle.message.specs.Answer.{rightLengths, packed, wordAnswer, unpacked, packedNumbers, unpackedNumbers}
 use Rattle.message.specs.RoundTrip.{IsRefused}
 use Rattle.message.specs.declared.Packed.{Packed}
 use Rattle.message.specs.declared.Unpacked.{Unpacked}
@@ -22,14 +22,14 @@ use Rattle.message.proofs.CharacterLaws.{AllLegal, firstBad-append, fir
 
 -- ---- The cases of packing a message
 
-pub right-lengths : (callsign locator : List ℕ) → length callsign ≡ 6 → length locator ≡ 4 → rightLengths callsign locator ≡ true
+pub right-lengths : (callsign locator : List ℕ) → length callsign ≡ 6 → length locator ≡ 4 → rightLengths (length callsign) (length locator) ≡ true
 unfolding rightLengths
 right-lengths callsign locator h k = rw (eq-eqb _ _ h, eq-eqb _ _ k)
 
-pub lengths-of-right : (callsign locator : List ℕ) → rightLengths callsign locator ≡ true → (length callsign ≡ 6) × (length locator ≡ 4)
+pub lengths-of-right : (callsign locator : List ℕ) → rightLengths (length callsign) (length locator) ≡ true → (length callsign ≡ 6) × (length locator ≡ 4)
 unfolding rightLengths
 lengths-of-right callsign locator e =
-    let tests = and-true (eqb (length callsign) 6) _ e in
+    let tests = both-true (eqb (length callsign) 6) _ e in
     (eqb-true _ _ (tests .0), eqb-true _ _ (tests .1))
 
 -- What a message is that is packed.
@@ -41,11 +41,11 @@ pub record Legal (callsign locator : List ℕ) (power : ℕ) : Type 0 where
   pub power-legal : legalPower power ≡ true
 
 module _ (callsign locator : List ℕ) (power : ℕ) where
-  pub packed-length : rightLengths callsign locator ≡ false → packed callsign locator power ≡ Packed.Refused (refusal wrongLength 0)
+  pub packed-length : rightLengths (length callsign) (length locator) ≡ false → packed callsign locator power ≡ Packed.Refused (refusal wrongLength 0)
   unfolding packed
   packed-length e = rw e
 
-  module _ (right : rightLengths callsign locator ≡ true) where
+  module _ (right : rightLengths (length callsign) (length locator) ≡ true) where
     pub packed-character : (bad : ℕ) → firstBad 0 (callsign ++ locator) ≡ bad → bad < 10
         → packed callsign locator power ≡ Packed.Refused (refusal badCharacter bad)
     unfolding packed
@@ -61,7 +61,7 @@ module _ (callsign locator : List ℕ) (power : ℕ) where
       packed-word e = rw (right, le-ltb _ 10 good, e)
 
 -- The characters of a message that is packed, part by part.
-pub legal-parts : (callsign locator : List ℕ) → length callsign ≡ 6 → length locator ≡ 4 → 10 ≤ firstBad 0 (callsign ++ locator)
+legal-parts : (callsign locator : List ℕ) → length callsign ≡ 6 → length locator ≡ 4 → 10 ≤ firstBad 0 (callsign ++ locator)
     → AllLegal 0 callsign × AllLegal 6 locator
 legal-parts callsign locator six four good =
     let whole : AllLegal 0 callsign = all-legal 0 callsign (below-or-not (firstBad 0 callsign) 6 (λ h. absurd (omega (arith, firstBad-first 0 callsign locator (omega arith)))) (λ h. omega arith)) in
@@ -72,7 +72,7 @@ pub legal-whole : (callsign locator : List ℕ) → length callsign ≡ 6 → le
 legal-whole callsign locator six four h k =
     omega (arith, firstBad-append 0 6 callsign locator (omega arith) h, none-bad 6 locator k)
 
-pub legal-message : (callsign locator : List ℕ) (power : ℕ) → rightLengths callsign locator ≡ true
+pub legal-message : (callsign locator : List ℕ) (power : ℕ) → rightLengths (length callsign) (length locator) ≡ true
     → 10 ≤ firstBad 0 (callsign ++ locator) → legalPower power ≡ true → Legal callsign locator power
 legal-message callsign locator power right good legal =
     let lengths = lengths-of-right callsign locator right in
@@ -80,14 +80,14 @@ legal-message callsign locator power right good legal =
     record { six = lengths .0; four = lengths .1; callsign-legal = parts .0; locator-legal = parts .1; power-legal = legal }
 
 -- A refusal is no word.
-refused-no-word : (f : Refusal) (word : ℕ) → Packed.Refused f ≡ Packed.Word word → ⊥
+pub refused-no-word : (f : Refusal) (word : ℕ) → Packed.Refused f ≡ Packed.Word word → ⊥
 refused-no-word f word e = let z : _≡_ {A = ℕ} 0 1 = cc in omega arith
 
 pub legal-of-packed : (callsign locator : List ℕ) (power word : ℕ) → packed callsign locator power ≡ Packed.Word word
     → Legal callsign locator power × (word ≡ wordOf callsign locator power)
 unfolding packed
 legal-of-packed callsign locator power word e =
-    let lengths = cond-passed (not (rightLengths callsign locator)) e (refused-no-word _ word) in
+    let lengths = cond-passed (not (rightLengths (length callsign) (length locator))) e (refused-no-word _ word) in
     let characters = cond-passed (ltb (firstBad 0 (callsign ++ locator)) 10) (lengths .1) (refused-no-word _ word) in
     let its-power = cond-passed (not (legalPower power)) (characters .1) (refused-no-word _ word) in
     (legal-message callsign locator power (not-false _ (lengths .0)) (ltb-false _ _ (characters .0)) (not-false _ (its-power .0)), cc)
@@ -95,9 +95,9 @@ legal-of-packed callsign locator power word e =
 -- ---- The cases of reading a word
 
 module _ (word : ℕ) where
-  pub wordRead-callsign : 262_177_560 ≤ callsignPart word → wordRead word ≡ Unpacked.Refused (refusal wordTooLarge 0)
-  unfolding wordRead
-  wordRead-callsign h = rw (le-leb 262_177_560 _ h, or-true (leb (2 ^ 50) word))
+  pub wordAnswer-callsign : 262_177_560 ≤ callsignPart word → wordAnswer word ≡ Unpacked.Refused (refusal wordTooLarge 0)
+  unfolding wordAnswer
+  wordAnswer-callsign h = rw (le-leb 262_177_560 _ h, or-true (leb (2 ^ 50) word))
 
   module _ (callsign : callsignPart word < 262_177_560) where
     -- A word of 2^50 or more has a callsign number past the end.
@@ -105,28 +105,28 @@ module _ (word : ℕ) where
     unfolding callsignPart
     in-50-bits = omega arith
 
-    pub wordRead-locator : 32_400 ≤ locatorPart word → wordRead word ≡ Unpacked.Refused (refusal badLocatorNumber 0)
-    unfolding wordRead
-    wordRead-locator h = rw (lt-leb (2 ^ 50) word in-50-bits, lt-leb 262_177_560 _ callsign, le-leb 32_400 _ h)
+    pub wordAnswer-locator : 32_400 ≤ locatorPart word → wordAnswer word ≡ Unpacked.Refused (refusal badLocatorNumber 0)
+    unfolding wordAnswer
+    wordAnswer-locator h = rw (lt-leb (2 ^ 50) word in-50-bits, lt-leb 262_177_560 _ callsign, le-leb 32_400 _ h)
 
     module _ (locator : locatorPart word < 32_400) where
       -- What is left is the power's test.
-      to-the-power : wordRead word
+      wordAnswer-past-locator : wordAnswer word
           ≡ cond (ltb (powerPart word) 64 || not (legalPower (powerPart word - 64))) (Unpacked.Refused (refusal badPowerBits 0))
           (Unpacked.Power (powerPart word - 64))
-      unfolding wordRead
-      to-the-power = rw (lt-leb (2 ^ 50) word in-50-bits, lt-leb 262_177_560 _ callsign, lt-leb 32_400 _ locator)
+      unfolding wordAnswer
+      wordAnswer-past-locator = rw (lt-leb (2 ^ 50) word in-50-bits, lt-leb 262_177_560 _ callsign, lt-leb 32_400 _ locator)
 
-      pub wordRead-low : powerPart word < 64 → wordRead word ≡ Unpacked.Refused (refusal badPowerBits 0)
-      wordRead-low h = to-the-power ∙ rw (lt-ltb _ 64 h)
+      pub wordAnswer-low : powerPart word < 64 → wordAnswer word ≡ Unpacked.Refused (refusal badPowerBits 0)
+      wordAnswer-low h = wordAnswer-past-locator ∙ rw (lt-ltb _ 64 h)
 
-      pub wordRead-illegal : 64 ≤ powerPart word → legalPower (powerPart word - 64) ≡ false
-          → wordRead word ≡ Unpacked.Refused (refusal badPowerBits 0)
-      wordRead-illegal h e = to-the-power ∙ rw (le-ltb _ 64 h, e)
+      pub wordAnswer-illegal : 64 ≤ powerPart word → legalPower (powerPart word - 64) ≡ false
+          → wordAnswer word ≡ Unpacked.Refused (refusal badPowerBits 0)
+      wordAnswer-illegal h e = wordAnswer-past-locator ∙ rw (le-ltb _ 64 h, e)
 
-      pub wordRead-power : 64 ≤ powerPart word → legalPower (powerPart word - 64) ≡ true
-          → wordRead word ≡ Unpacked.Power (powerPart word - 64)
-      wordRead-power h e = to-the-power ∙ rw (le-ltb _ 64 h, e)
+      pub wordAnswer-power : 64 ≤ powerPart word → legalPower (powerPart word - 64) ≡ true
+          → wordAnswer word ≡ Unpacked.Power (powerPart word - 64)
+      wordAnswer-power h e = wordAnswer-past-locator ∙ rw (le-ltb _ 64 h, e)
 
 -- What a word is that is read.
 pub record Readable (word power : ℕ) : Type 0 where
@@ -139,16 +139,16 @@ pub record Readable (word power : ℕ) : Type 0 where
 refused-no-power : (f : Refusal) (power : ℕ) → Unpacked.Refused f ≡ Unpacked.Power power → ⊥
 refused-no-power f power e = let z : _≡_ {A = ℕ} 0 1 = cc in omega arith
 
-pub readable : (word power : ℕ) → wordRead word ≡ Unpacked.Power power → Readable word power
-unfolding wordRead
+pub readable : (word power : ℕ) → wordAnswer word ≡ Unpacked.Power power → Readable word power
+unfolding wordAnswer
 readable word power e =
     let size = cond-passed (leb (2 ^ 50) word || leb 262_177_560 (callsignPart word)) e (refused-no-power _ power) in
     let its-locator = cond-passed (leb 32_400 (locatorPart word)) (size .1) (refused-no-power _ power) in
     let its-power = cond-passed (ltb (powerPart word) 64 || not (legalPower (powerPart word - 64))) (its-locator .1) (refused-no-power _ power) in
-    let tests = or-false (ltb (powerPart word) 64) _ (its-power .0) in
+    let tests = both-false (ltb (powerPart word) 64) _ (its-power .0) in
     let same : power ≡ powerPart word - 64 = cc in
     record {
-      callsign = leb-false _ _ (or-false (leb (2 ^ 50) word) _ (size .0) .1);
+      callsign = leb-false _ _ (both-false (leb (2 ^ 50) word) _ (size .0) .1);
       locator = leb-false _ _ (its-locator .0);
       bits = ltb-false _ _ (tests .0);
       is-power = same;
@@ -158,11 +158,11 @@ readable word power e =
 -- ---- The cases of unpacking into lent buffers
 
 module _ (callsign locator : List ℕ) (word : ℕ) where
-  pub unpacked-length : rightLengths callsign locator ≡ false → unpacked callsign locator word ≡ Unpacked.Refused (refusal wrongLength 0)
+  pub unpacked-length : rightLengths (length callsign) (length locator) ≡ false → unpacked callsign locator word ≡ Unpacked.Refused (refusal wrongLength 0)
   unfolding unpacked
   unpacked-length e = rw e
 
-  pub unpacked-read : rightLengths callsign locator ≡ true → unpacked callsign locator word ≡ wordRead word
+  pub unpacked-read : rightLengths (length callsign) (length locator) ≡ true → unpacked callsign locator word ≡ wordAnswer word
   unfolding unpacked
   unpacked-read e = rw e
 
@@ -172,15 +172,15 @@ pub packed-answered : (callsign locator : List ℕ) (power : ℕ) → packedNumb
     → packed callsign locator power ≡ Packed.Word (packedNumbers (packed callsign locator power) .word)
 unfolding packed packedNumbers
 packed-answered callsign locator power =
-    by-test (not (rightLengths callsign locator)) (λ e. rw e (λ z. absurd (omega arith)))
+    by-test (not (rightLengths (length callsign) (length locator))) (λ e. rw e (λ z. absurd (omega arith)))
     (λ e. rw e (by-test (ltb (firstBad 0 (callsign ++ locator)) 10) (λ e. rw e (λ z. absurd (omega arith)))
     (λ e. rw e (by-test (not (legalPower power)) (λ e. rw e (λ z. absurd (omega arith))) (λ e. rw e (λ z. refl))))))
 
 pub unpacked-answered : (callsign locator : List ℕ) (word : ℕ) → unpackedNumbers (unpacked callsign locator word) .number ≡ 0
     → unpacked callsign locator word ≡ Unpacked.Power (unpackedNumbers (unpacked callsign locator word) .power)
-unfolding unpacked wordRead unpackedNumbers
+unfolding unpacked wordAnswer unpackedNumbers
 unpacked-answered callsign locator word =
-    by-test (not (rightLengths callsign locator)) (λ e. rw e (λ z. absurd (omega arith)))
+    by-test (not (rightLengths (length callsign) (length locator))) (λ e. rw e (λ z. absurd (omega arith)))
     (λ e. rw e (by-test (leb (2 ^ 50) word || leb 262_177_560 (callsignPart word)) (λ e. rw e (λ z. absurd (omega arith)))
     (λ e. rw e (by-test (leb 32_400 (locatorPart word)) (λ e. rw e (λ z. absurd (omega arith)))
     (λ e. rw e (by-test (ltb (powerPart word) 64 || not (legalPower (powerPart word - 64))) (λ e. rw e (λ z. absurd (omega arith)))

@@ -12,7 +12,7 @@ use lib.Seq.{drop-cons}
 use borrow.Author.Tests.{le-leb, lt-ltb, le-ltb, leb-true, ltb-true, ne-eqb}
 use Rattle.radix.specs.Numeral.{Digits}
 use Rattle.basics.proofs.Tables.{every-at}
-use Rattle.basics.proofs.Choice.{between-true, between-below, between-above, and-true, by-test, below-or-not, equal-or-not}
+use Rattle.basics.proofs.Choice.{between-true, between-below, between-above, both-true, by-test, below-or-not, equal-or-not}
 use Rattle.message.specs.Character.{value, character, CharacterSet, callsignSets, locatorSets, setAt, legalAt, firstBad, digitAt, characterAt, overPlaces, digitsFrom, charactersFrom, DigitsAt}
 
 -- ---- A byte's class
@@ -58,13 +58,13 @@ character-space {v} h = rw (le-ltb v 10 (omega arith), le-ltb v 36 h)
 
 -- ---- A value and its character
 
-pub value-character : {v : ℕ} → v < 37 → value (character v) ≡ v
+value-character : {v : ℕ} → v < 37 → value (character v) ≡ v
 value-character {v} h =
     below-or-not v 10 (λ d. rw (character-digit d) (value-digit (omega arith) (omega arith) ∙ omega arith))
     (λ d. below-or-not v 36 (λ l. rw (character-letter d l) (value-letter (omega arith) (omega arith) ∙ omega arith))
     (λ l. rw (character-space l) (value-space ∙ omega arith)))
 
-pub character-value : (b : ℕ) → value b < 37 → character (value b) ≡ b
+character-value : (b : ℕ) → value b < 37 → character (value b) ≡ b
 character-value b h =
     below-or-not b 48
     (λ d. equal-or-not b 32 (λ e. rw (e, value-space) (character-space (omega arith)))
@@ -99,38 +99,30 @@ set-end place = leb-true _ _ (every-at (λ (s : CharacterSet). leb (s .lowest + 
 
 -- ---- Legal characters
 
-pub legal-from : (place b : ℕ) → setAt place .lowest ≤ value b → value b < setAt place .lowest + setAt place .size → legalAt place b ≡ true
+legal-from : (place b : ℕ) → setAt place .lowest ≤ value b → value b < setAt place .lowest + setAt place .size → legalAt place b ≡ true
 unfolding legalAt
 legal-from place b h k = rw (le-leb _ _ h, lt-ltb _ _ k)
 
-pub legal-lowest : (place b : ℕ) → legalAt place b ≡ true → setAt place .lowest ≤ value b
+legal-lowest : (place b : ℕ) → legalAt place b ≡ true → setAt place .lowest ≤ value b
 unfolding legalAt
-legal-lowest place b e = leb-true _ _ (and-true (leb (setAt place .lowest) (value b)) _ e .0)
+legal-lowest place b e = leb-true _ _ (both-true (leb (setAt place .lowest) (value b)) _ e .0)
 
-pub legal-end : (place b : ℕ) → legalAt place b ≡ true → value b < setAt place .lowest + setAt place .size
+legal-end : (place b : ℕ) → legalAt place b ≡ true → value b < setAt place .lowest + setAt place .size
 unfolding legalAt
-legal-end place b e = ltb-true _ _ (and-true (leb (setAt place .lowest) (value b)) _ e .1)
+legal-end place b e = ltb-true _ _ (both-true (leb (setAt place .lowest) (value b)) _ e .1)
 
 -- Every character from a place on is legal.
 unfoldable pub AllLegal : ℕ → List ℕ → Type 0
 AllLegal place [] = Unit
 AllLegal place (b ∷ bs) = (legalAt place b ≡ true) × AllLegal (suc place) bs
 
-pub firstBad-legal : (place b : ℕ) (bs : List ℕ) → legalAt place b ≡ true → firstBad place (b ∷ bs) ≡ firstBad (suc place) bs
+firstBad-legal : (place b : ℕ) (bs : List ℕ) → legalAt place b ≡ true → firstBad place (b ∷ bs) ≡ firstBad (suc place) bs
 unfolding firstBad
 firstBad-legal place b bs e = rw e
 
-pub firstBad-bad : (place b : ℕ) (bs : List ℕ) → legalAt place b ≡ false → firstBad place (b ∷ bs) ≡ place
+firstBad-bad : (place b : ℕ) (bs : List ℕ) → legalAt place b ≡ false → firstBad place (b ∷ bs) ≡ place
 unfolding firstBad
 firstBad-bad place b bs e = rw e
-
-pub firstBad-end : (place : ℕ) (bs : List ℕ) → firstBad place bs ≤ place + length bs
-unfolding firstBad
-firstBad-end place [] = omega arith
-firstBad-end place (b ∷ bs) =
-    by-test (legalAt place b)
-    (λ e. rw e (omega (arith, firstBad-end (suc place) bs)))
-    (λ e. rw e (omega arith))
 
 -- None is bad exactly where all are legal.
 pub all-legal : (place : ℕ) (bs : List ℕ) → place + length bs ≤ firstBad place bs → AllLegal place bs

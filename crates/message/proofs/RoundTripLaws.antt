@@ -5,15 +5,16 @@ use Prim.Native.Nat.{ℕ, _-_}
 use native.Mathlib.Omega.{arith}
 use mathlib.Core.Bool.{true}
 use mathlib.Core.List.{List}
+use lib.ListN.{length}
 use Rattle.refusal.specs.declared.Refusal.{Refusal}
-use Rattle.message.specs.Word.{callsignNumber, locatorNumber, lowerNumber, wordFrom, wordOf, callsignPart, locatorPart, powerPart, callsignAt, locatorAt, callsignOf, locatorOf}
-use Rattle.message.specs.Answer.{rightLengths, packed, wordRead, unpacked, after, callsignAfter, locatorAfter}
-use Rattle.message.specs.RoundTrip.{ReadsAs, WritesBack, IsRefused, NeverMade, RefusesExactly}
+use Rattle.message.specs.Word.{callsignNumber, locatorNumber, lowerNumber, wordFrom, wordOf, callsignPart, locatorPart, powerPart, callsignWithNumber, locatorWithNumber, callsignOf, locatorOf}
+use Rattle.message.specs.Answer.{rightLengths, packed, wordAnswer, unpacked, contentAfter, callsignAfter, locatorAfter}
+use Rattle.message.specs.RoundTrip.{ReadsAs, PacksBack, IsRefused, NeverMade, RefusesExactly}
 use Rattle.message.specs.declared.Packed.{Packed}
 use Rattle.message.specs.declared.Unpacked.{Unpacked}
 use Rattle.power.proofs.Laws.{legal-power-end}
-use Rattle.message.proofs.WordLaws.{callsignNumber-below, callsignAt-callsignNumber, callsignAt-length, callsignAt-legal, callsignNumber-callsignAt, locatorNumber-below, locatorAt-locatorNumber, locatorAt-length, locatorAt-legal, locatorNumber-locatorAt, callsignPart-word, locatorPart-word, powerPart-word, word-of-parts}
-use Rattle.message.proofs.AnswerLaws.{right-lengths, packed-word, legal-whole, legal-of-packed, wordRead-power, readable, unpacked-read}
+use Rattle.message.proofs.WordLaws.{callsignNumber-below, callsignWithNumber-callsignNumber, callsignWithNumber-length, callsignWithNumber-legal, callsignNumber-callsignWithNumber, locatorNumber-below, locatorWithNumber-locatorNumber, locatorWithNumber-length, locatorWithNumber-legal, locatorNumber-locatorWithNumber, callsignPart-word, locatorPart-word, powerPart-word, word-below, word-of-parts}
+use Rattle.message.proofs.AnswerLaws.{right-lengths, packed-word, legal-whole, legal-of-packed, wordAnswer-power, readable, unpacked-read}
 
 -- ---- The round trips
 
@@ -35,56 +36,57 @@ unpack-pack callsign locator power word e =
     let w = wordFrom n (lowerNumber m1 power) in
     let same : powerPart w - 64 ≡ power = omega arith in
     rw (made .1) (record {
-      its-power = wordRead-power w (omega arith) (omega arith) (omega arith) (rw same (l .power-legal)) ∙ ap Unpacked.Power same;
-      its-callsign = rw its-n (callsignAt-callsignNumber callsign (l .six) (l .callsign-legal));
-      its-locator = rw its-m1 (locatorAt-locatorNumber locator (l .four) (l .locator-legal));
+      in-50-bits = word-below n m1 power within end below;
+      its-power = wordAnswer-power w (omega arith) (omega arith) (omega arith) (rw same (l .power-legal)) ∙ ap Unpacked.Power same;
+      its-callsign = rw its-n (callsignWithNumber-callsignNumber callsign (l .six) (l .callsign-legal));
+      its-locator = rw its-m1 (locatorWithNumber-locatorNumber locator (l .four) (l .locator-legal));
     })
 
 -- A word that is read packs back.
-pub pack-unpack : (word power : ℕ) → wordRead word ≡ Unpacked.Power power → packed (callsignOf word) (locatorOf word) power ≡ Packed.Word word
+pub pack-unpack : (word power : ℕ) → wordAnswer word ≡ Unpacked.Power power → packed (callsignOf word) (locatorOf word) power ≡ Packed.Word word
 unfolding wordOf callsignOf locatorOf
 pack-unpack word power e =
     let r = readable word power e in
     let n = callsignPart word in
     let m1 = locatorPart word in
-    packed-word (callsignAt n) (locatorAt m1) power
-    (right-lengths _ _ (callsignAt-length n) (locatorAt-length m1))
-    (legal-whole _ _ (callsignAt-length n) (locatorAt-length m1) (callsignAt-legal n) (locatorAt-legal m1))
+    packed-word (callsignWithNumber n) (locatorWithNumber m1) power
+    (right-lengths (callsignWithNumber n) (locatorWithNumber m1) (callsignWithNumber-length n) (locatorWithNumber-length m1))
+    (legal-whole _ _ (callsignWithNumber-length n) (locatorWithNumber-length m1) (callsignWithNumber-legal n) (locatorWithNumber-legal m1))
     (r .power-legal)
-    ∙ ap Packed.Word (rw (callsignNumber-callsignAt n (r .callsign), locatorNumber-locatorAt m1 (r .locator), r .is-power) (word-of-parts word (r .bits)))
+    ∙ ap Packed.Word (rw (callsignNumber-callsignWithNumber n (r .callsign), locatorNumber-locatorWithNumber m1 (r .locator), r .is-power) (word-of-parts word (r .bits)))
 
 -- The reader refuses exactly the words that the writer never makes.
-pub refuses-exactly : (word : ℕ) → IsRefused (wordRead word) ↔ NeverMade word
-refuses-exactly word = (λ refused callsign locator power made. never refused (unpack-pack callsign locator power word made .its-power), λ never-made. exact (wordRead word) refl never-made)
+pub refuses-exactly : (word : ℕ) → IsRefused (wordAnswer word) ↔ NeverMade word
+refuses-exactly word = (λ refused callsign locator power made. never refused (unpack-pack callsign locator power word made .its-power), λ never-made. exact (wordAnswer word) refl never-made)
   where
-    never : {power : ℕ} → IsRefused (wordRead word) → wordRead word ≡ Unpacked.Power power → ⊥
+    never : {power : ℕ} → IsRefused (wordAnswer word) → wordAnswer word ≡ Unpacked.Power power → ⊥
     never refused e = rw e at refused
 
-    exact : (answer : Unpacked) → wordRead word ≡ answer → NeverMade word → IsRefused answer
+    exact : (answer : Unpacked) → wordAnswer word ≡ answer → NeverMade word → IsRefused answer
     exact (Unpacked.Power p) e never-made = never-made _ _ p (pack-unpack word p e)
     exact (Unpacked.Refused f) e never-made = tt
 
 -- ---- What unpacking into lent buffers promises, from its answer and what they then hold
 
 module _ (callsign locator : List ℕ) (word : ℕ) where
-  abbrev pub Met : Unpacked → List ℕ → List ℕ → Type 0
-  Met answer its-callsign its-locator =
+  abbrev pub Promised : Unpacked → List ℕ → List ℕ → Type 0
+  Promised answer its-callsign its-locator =
       (answer ≡ unpacked callsign locator word)
       × ((its-callsign ≡ callsignAfter callsign locator word)
       × ((its-locator ≡ locatorAfter callsign locator word)
-      × (WritesBack answer word its-callsign its-locator × RefusesExactly answer word callsign locator)))
+      × (PacksBack answer word its-callsign its-locator × RefusesExactly answer word callsign locator)))
 
   -- With the lengths right the answer is the word's.
   exactly : RefusesExactly (unpacked callsign locator word) word callsign locator
   exactly six four = rw (unpacked-read callsign locator word (right-lengths callsign locator six four)) (refuses-exactly word)
 
-  pub met-refused : (f : Refusal) → unpacked callsign locator word ≡ Unpacked.Refused f → Met (Unpacked.Refused f) callsign locator
-  unfolding callsignAfter locatorAfter after
-  met-refused f e = (sym e, (rw e, (rw e, (tt, rw e at exactly))))
+  pub promised-refused : (f : Refusal) → unpacked callsign locator word ≡ Unpacked.Refused f → Promised (Unpacked.Refused f) callsign locator
+  unfolding callsignAfter locatorAfter contentAfter
+  promised-refused f e = (sym e, (rw e, (rw e, (tt, rw e at exactly))))
 
-  pub met-power : (power : ℕ) → rightLengths callsign locator ≡ true → wordRead word ≡ Unpacked.Power power
-      → Met (Unpacked.Power power) (callsignOf word) (locatorOf word)
-  unfolding callsignAfter locatorAfter after
-  met-power power right read =
+  pub promised-power : (power : ℕ) → rightLengths (length callsign) (length locator) ≡ true → wordAnswer word ≡ Unpacked.Power power
+      → Promised (Unpacked.Power power) (callsignOf word) (locatorOf word)
+  unfolding callsignAfter locatorAfter contentAfter
+  promised-power power right read =
       let e = unpacked-read callsign locator word right ∙ read in
       (sym e, (rw e, (rw e, (pack-unpack word power read, rw e at exactly))))

@@ -8,7 +8,7 @@ use lib.ListN.{length, getD}
 use Rattle.radix.specs.Numeral.{Digits, Positive, count, numberFrom, numberOf, digitsOf}
 use Rattle.radix.proofs.Laws.{number-below, digits-in-range, digitsOf-numberOf, numberOf-digitsOf}
 use Rattle.message.specs.Character.{setAt, callsignSets, locatorSets, DigitsAt, digitsFrom}
-use Rattle.message.specs.Word.{callsignRadices, callsignNumber, locatorNumberOf, locatorNumber, lowerNumber, wordFrom, callsignPart, locatorPart, powerPart, locatorRadices, locatorValues, callsignAt, locatorAt}
+use Rattle.message.specs.Word.{callsignRadices, callsignNumber, locatorNumberFrom, locatorNumber, lowerNumber, wordFrom, callsignPart, locatorPart, powerPart, locatorRadices, locatorValues, callsignWithNumber, locatorWithNumber}
 use Rattle.message.proofs.CharacterLaws.{AllLegal, sizesFrom, digits-of-legal, characters-of-digits, legal-of-digits, digits-of-characters, digits-in-sizes, sizes-by-length, length-digitsFrom, length-charactersFrom}
 
 -- ---- The callsign's number
@@ -34,9 +34,9 @@ unfolding callsignNumber
 callsignNumber-below callsign six legal =
     subst (λ (n : ℕ). callsignNumber callsign < n) callsign-count (number-below callsignRadices _ (callsign-digits callsign six legal))
 
-pub callsignAt-callsignNumber : (callsign : List ℕ) → length callsign ≡ 6 → AllLegal 0 callsign → callsignAt (callsignNumber callsign) ≡ callsign
-unfolding callsignAt callsignNumber
-callsignAt-callsignNumber callsign six legal =
+pub callsignWithNumber-callsignNumber : (callsign : List ℕ) → length callsign ≡ 6 → AllLegal 0 callsign → callsignWithNumber (callsignNumber callsign) ≡ callsign
+unfolding callsignWithNumber callsignNumber
+callsignWithNumber-callsignNumber callsign six legal =
     rw (digitsOf-numberOf callsignRadices (digitsFrom 0 callsign) (callsign-digits callsign six legal)) (characters-of-digits 0 callsign legal)
 
 -- The digits of a number are in their places' sets.
@@ -44,17 +44,17 @@ pub callsign-digits-at : (n : ℕ) → DigitsAt 0 (digitsOf callsignRadices n)
 unfolding Digits DigitsAt digitsOf setAt callsignSets locatorSets callsignRadices
 callsign-digits-at n = digits-in-range callsignRadices n callsign-positive
 
-pub callsignAt-length : (n : ℕ) → length (callsignAt n) ≡ 6
-unfolding callsignAt digitsOf callsignRadices
-callsignAt-length n = length-charactersFrom 0 (digitsOf callsignRadices n)
+pub callsignWithNumber-length : (n : ℕ) → length (callsignWithNumber n) ≡ 6
+unfolding callsignWithNumber digitsOf callsignRadices
+callsignWithNumber-length n = length-charactersFrom 0 (digitsOf callsignRadices n)
 
-pub callsignAt-legal : (n : ℕ) → AllLegal 0 (callsignAt n)
-unfolding callsignAt
-callsignAt-legal n = legal-of-digits 0 (digitsOf callsignRadices n) (callsign-digits-at n)
+pub callsignWithNumber-legal : (n : ℕ) → AllLegal 0 (callsignWithNumber n)
+unfolding callsignWithNumber
+callsignWithNumber-legal n = legal-of-digits 0 (digitsOf callsignRadices n) (callsign-digits-at n)
 
-pub callsignNumber-callsignAt : (n : ℕ) → n < 262_177_560 → callsignNumber (callsignAt n) ≡ n
-unfolding callsignAt callsignNumber
-callsignNumber-callsignAt n h =
+pub callsignNumber-callsignWithNumber : (n : ℕ) → n < 262_177_560 → callsignNumber (callsignWithNumber n) ≡ n
+unfolding callsignWithNumber callsignNumber
+callsignNumber-callsignWithNumber n h =
     rw (digits-of-characters 0 (digitsOf callsignRadices n) (callsign-digits-at n))
     (numberOf-digitsOf callsignRadices callsign-positive (subst (λ (m : ℕ). n < m) (sym callsign-count) h))
 
@@ -72,35 +72,35 @@ locator-count = refl
 abbrev pub locatorDigits : List ℕ → List ℕ
 locatorDigits vs = (17 - getD vs 0 0) ∷ (9 - getD vs 2 0) ∷ getD vs 1 0 ∷ getD vs 3 0 ∷ []
 
--- Four values that are below the sizes of the locator's sets.
-pub record Values (vs : List ℕ) : Type 0 where
+-- Four values, each below the size of its set.
+pub record InSets (vs : List ℕ) : Type 0 where
   pub a : getD vs 0 0 < 18
   pub b : getD vs 1 0 < 18
   pub c : getD vs 2 0 < 10
   pub d : getD vs 3 0 < 10
   pub all : vs ≡ getD vs 0 0 ∷ getD vs 1 0 ∷ getD vs 2 0 ∷ getD vs 3 0 ∷ []
 
-pub values : (vs : List ℕ) → length vs ≡ 4 → DigitsAt 6 vs → Values vs
+in-sets : (vs : List ℕ) → length vs ≡ 4 → DigitsAt 6 vs → InSets vs
 unfolding DigitsAt setAt callsignSets locatorSets
-values [] h k = absurd (omega arith)
-values (a ∷ []) h k = absurd (omega arith)
-values (a ∷ b ∷ []) h k = absurd (omega arith)
-values (a ∷ b ∷ c ∷ []) h k = absurd (omega arith)
-values (a ∷ b ∷ c ∷ d ∷ []) h k = record { a = k .0; b = k .1 .0; c = k .1 .1 .0; d = k .1 .1 .1 .0; all = refl }
-values (a ∷ b ∷ c ∷ d ∷ e ∷ vs) h k = absurd (omega arith)
+in-sets [] h k = absurd (omega arith)
+in-sets (a ∷ []) h k = absurd (omega arith)
+in-sets (a ∷ b ∷ []) h k = absurd (omega arith)
+in-sets (a ∷ b ∷ c ∷ []) h k = absurd (omega arith)
+in-sets (a ∷ b ∷ c ∷ d ∷ []) h k = record { a = k .0; b = k .1 .0; c = k .1 .1 .0; d = k .1 .1 .1 .0; all = refl }
+in-sets (a ∷ b ∷ c ∷ d ∷ e ∷ vs) h k = absurd (omega arith)
 
-pub locator-values : (locator : List ℕ) → length locator ≡ 4 → AllLegal 6 locator → Values (digitsFrom 6 locator)
+pub locator-values : (locator : List ℕ) → length locator ≡ 4 → AllLegal 6 locator → InSets (digitsFrom 6 locator)
 locator-values locator four legal =
-    values (digitsFrom 6 locator) (length-digitsFrom 6 locator ∙ four) (digits-of-legal 6 locator legal)
+    in-sets (digitsFrom 6 locator) (length-digitsFrom 6 locator ∙ four) (digits-of-legal 6 locator legal)
 
-pub locator-digits : (vs : List ℕ) → Values vs → Digits locatorRadices (locatorDigits vs)
+pub locator-digits : (vs : List ℕ) → InSets vs → Digits locatorRadices (locatorDigits vs)
 unfolding Digits locatorRadices
 locator-digits vs v = omega arith
 
 -- 01's formula is the number of those digits.
 pub locatorNumber-digits : (locator : List ℕ) → length locator ≡ 4 → AllLegal 6 locator
     → locatorNumber locator ≡ numberOf locatorRadices (locatorDigits (digitsFrom 6 locator))
-unfolding locatorNumber locatorNumberOf numberOf numberFrom locatorRadices
+unfolding locatorNumber locatorNumberFrom numberOf numberFrom locatorRadices
 locatorNumber-digits locator four legal =
     let v = locator-values locator four legal in
     omega arith
@@ -115,16 +115,16 @@ locatorNumber-below locator four legal =
       number-below locatorRadices (locatorDigits vs) (locator-digits vs (locator-values locator four legal)),
     )
 
-locatorValues-locatorDigits : (vs : List ℕ) → Values vs → locatorValues (locatorDigits vs) ≡ vs
+locatorValues-locatorDigits : (vs : List ℕ) → InSets vs → locatorValues (locatorDigits vs) ≡ vs
 unfolding locatorValues
 locatorValues-locatorDigits vs v =
     let a : 17 - (17 - getD vs 0 0) ≡ getD vs 0 0 = omega (arith, v .a) in
     let c : 9 - (9 - getD vs 2 0) ≡ getD vs 2 0 = omega (arith, v .c) in
     rw (a, c) (sym (v .all))
 
-pub locatorAt-locatorNumber : (locator : List ℕ) → length locator ≡ 4 → AllLegal 6 locator → locatorAt (locatorNumber locator) ≡ locator
-unfolding locatorAt
-locatorAt-locatorNumber locator four legal =
+pub locatorWithNumber-locatorNumber : (locator : List ℕ) → length locator ≡ 4 → AllLegal 6 locator → locatorWithNumber (locatorNumber locator) ≡ locator
+unfolding locatorWithNumber
+locatorWithNumber-locatorNumber locator four legal =
     let vs = digitsFrom 6 locator in
     let v = locator-values locator four legal in
     rw (locatorNumber-digits locator four legal, digitsOf-numberOf locatorRadices (locatorDigits vs) (locator-digits vs v), locatorValues-locatorDigits vs v)
@@ -137,17 +137,17 @@ locator-values-at n =
     let ds = digits-in-range locatorRadices n locator-positive in
     omega arith
 
-pub locatorAt-length : (n : ℕ) → length (locatorAt n) ≡ 4
-unfolding locatorAt locatorValues
-locatorAt-length n = length-charactersFrom 6 (locatorValues (digitsOf locatorRadices n))
+pub locatorWithNumber-length : (n : ℕ) → length (locatorWithNumber n) ≡ 4
+unfolding locatorWithNumber locatorValues
+locatorWithNumber-length n = length-charactersFrom 6 (locatorValues (digitsOf locatorRadices n))
 
-pub locatorAt-legal : (n : ℕ) → AllLegal 6 (locatorAt n)
-unfolding locatorAt
-locatorAt-legal n = legal-of-digits 6 (locatorValues (digitsOf locatorRadices n)) (locator-values-at n)
+pub locatorWithNumber-legal : (n : ℕ) → AllLegal 6 (locatorWithNumber n)
+unfolding locatorWithNumber
+locatorWithNumber-legal n = legal-of-digits 6 (locatorValues (digitsOf locatorRadices n)) (locator-values-at n)
 
-turned-twice : (x y b d : ℕ) → x < 18 → y < 10 → locatorDigits (locatorValues (x ∷ y ∷ b ∷ d ∷ [])) ≡ x ∷ y ∷ b ∷ d ∷ []
+complement-twice : (x y b d : ℕ) → x < 18 → y < 10 → locatorDigits (locatorValues (x ∷ y ∷ b ∷ d ∷ [])) ≡ x ∷ y ∷ b ∷ d ∷ []
 unfolding locatorValues
-turned-twice x y b d h k =
+complement-twice x y b d h k =
     let a : 17 - (17 - x) ≡ x = omega arith in
     let c : 9 - (9 - y) ≡ y = omega arith in
     rw (a, c)
@@ -156,13 +156,13 @@ locatorDigits-locatorValues : (n : ℕ) → locatorDigits (locatorValues (digits
 unfolding Digits digitsOf locatorRadices
 locatorDigits-locatorValues n =
     let ds = digits-in-range locatorRadices n locator-positive in
-    turned-twice _ _ _ _ (ds .0) (ds .1 .0)
+    complement-twice _ _ _ _ (ds .0) (ds .1 .0)
 
-pub locatorNumber-locatorAt : (n : ℕ) → n < 32_400 → locatorNumber (locatorAt n) ≡ n
-unfolding locatorAt
-locatorNumber-locatorAt n h =
+pub locatorNumber-locatorWithNumber : (n : ℕ) → n < 32_400 → locatorNumber (locatorWithNumber n) ≡ n
+unfolding locatorWithNumber
+locatorNumber-locatorWithNumber n h =
     let vs = locatorValues (digitsOf locatorRadices n) in
-    locatorNumber-digits (locatorAt n) (locatorAt-length n) (locatorAt-legal n)
+    locatorNumber-digits (locatorWithNumber n) (locatorWithNumber-length n) (locatorWithNumber-legal n)
     ∙ rw (digits-of-characters 6 vs (locator-values-at n), locatorDigits-locatorValues n)
     (numberOf-digitsOf locatorRadices locator-positive (subst (λ (m : ℕ). n < m) (sym locator-count) h))
 

@@ -11,25 +11,26 @@ use Rattle.message.specs.Word.{wordOf, callsignPart, locatorPart, powerP
 use Rattle.message.specs.declared.Packed.{Packed}
 use Rattle.message.specs.declared.Unpacked.{Unpacked}
 
--- A callsign of six bytes and a locator of four.
-unfoldable pub rightLengths : List ℕ → List ℕ → Bool
-rightLengths callsign locator = eqb (length callsign) 6 && eqb (length locator) 4
+-- The lengths are those of a callsign, 6, and of a locator, 4.
+unfoldable pub rightLengths : ℕ → ℕ → Bool
+rightLengths callsign locator = eqb callsign 6 && eqb locator 4
 
--- ---- From a message to its word: refusals 1, 2, 3
+-- ---- From a message to its word
 
+-- "If several apply, the order is: triple 1, 2, 3"; "within one number, the lowest place".
 unfoldable pub packed : List ℕ → List ℕ → ℕ → Packed
 packed callsign locator power =
     let bad = firstBad 0 (callsign ++ locator) in
-    cond (not (rightLengths callsign locator)) (Packed.Refused (refusal wrongLength 0))
+    cond (not (rightLengths (length callsign) (length locator))) (Packed.Refused (refusal wrongLength 0))
     (cond (ltb bad 10) (Packed.Refused (refusal badCharacter bad))
     (cond (not (legalPower power)) (Packed.Refused (refusal badPower 0))
     (Packed.Word (wordOf callsign locator power))))
 
--- ---- From a word to its message: refusals 1, 4, 5, 6
+-- ---- From a word to its message: "word 1 (if a buffer is lent), 4, 5, 6"
 
 -- A word's power, or why the word isn't a message's.
-unfoldable pub wordRead : ℕ → Unpacked
-wordRead word =
+unfoldable pub wordAnswer : ℕ → Unpacked
+wordAnswer word =
     cond (leb (2 ^ 50) word || leb 262_177_560 (callsignPart word)) (Unpacked.Refused (refusal wordTooLarge 0))
     (cond (leb 32_400 (locatorPart word)) (Unpacked.Refused (refusal badLocatorNumber 0))
     (cond (ltb (powerPart word) 64 || not (legalPower (powerPart word - 64))) (Unpacked.Refused (refusal badPowerBits 0))
@@ -37,18 +38,20 @@ wordRead word =
 
 -- The answer, given what the lent callsign and locator hold.
 unfoldable pub unpacked : List ℕ → List ℕ → ℕ → Unpacked
-unpacked callsign locator word = cond (not (rightLengths callsign locator)) (Unpacked.Refused (refusal wrongLength 0)) (wordRead word)
+unpacked callsign locator word = cond (not (rightLengths (length callsign) (length locator))) (Unpacked.Refused (refusal wrongLength 0)) (wordAnswer word)
 
 -- What a lent buffer holds after the answer: what it held where that is a refusal, else the characters.
-unfoldable pub after : Unpacked → List ℕ → List ℕ → List ℕ
-after (Unpacked.Power p) before characters = characters
-after (Unpacked.Refused f) before characters = before
+unfoldable pub contentAfter : Unpacked → List ℕ → List ℕ → List ℕ
+contentAfter (Unpacked.Power p) before characters = characters
+contentAfter (Unpacked.Refused f) before characters = before
 
+-- What the lent callsign then holds.
 unfoldable pub callsignAfter : List ℕ → List ℕ → ℕ → List ℕ
-callsignAfter callsign locator word = after (unpacked callsign locator word) callsign (callsignOf word)
+callsignAfter callsign locator word = contentAfter (unpacked callsign locator word) callsign (callsignOf word)
 
+-- What the lent locator then holds.
 unfoldable pub locatorAfter : List ℕ → List ℕ → ℕ → List ℕ
-locatorAfter callsign locator word = after (unpacked callsign locator word) locator (locatorOf word)
+locatorAfter callsign locator word = contentAfter (unpacked callsign locator word) locator (locatorOf word)
 
 -- ---- The result numbers of each answer: 0 where it has none
 

@@ -16,7 +16,7 @@ value byte =
     (cond (between 65 90 byte) (byte - 55)
     (cond (eqb byte 32) 36 37))
 
--- The character that has a value from 0 to 36: a digit, a capital letter or the space.
+-- The character that has a value from 0 to 36: a digit, a capital letter or the space. Above 36 it is the space too.
 unfoldable pub character : ℕ → ℕ
 character v =
     cond (ltb v 10) (v + 48)
@@ -73,13 +73,15 @@ firstBad place (b ∷ bs) = cond (legalAt place b) (firstBad (suc place) bs) pla
 
 -- ---- Digits: a character's value counted from its set's lowest
 
+-- A character's digit at its place.
 unfoldable pub digitAt : ℕ → ℕ → ℕ
 digitAt place byte = value byte - setAt place .lowest
 
+-- The character of a digit at its place.
 unfoldable pub characterAt : ℕ → ℕ → ℕ
 characterAt place digit = character (setAt place .lowest + digit)
 
--- Each element by its place, from the given one on.
+-- f of each place and the element there, from the given place on.
 unfoldable pub overPlaces : (ℕ → ℕ → ℕ) → ℕ → List ℕ → List ℕ
 overPlaces f place [] = []
 overPlaces f place (x ∷ xs) = f place x ∷ overPlaces f (suc place) xs

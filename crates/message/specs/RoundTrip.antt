@@ -1,18 +1,19 @@
 -- What packing and unpacking promise of each other (demand 2): the round trips, and that the reader refuses exactly the words
 -- that the writer never makes.
-use Prim.Native.Nat.{ℕ}
+use Prim.Native.Nat.{ℕ, _^_, _<_}
 use mathlib.Core.Path.{_≡_}
 use mathlib.Core.Logic.{_↔_}
 use mathlib.Core.List.{List}
 use lib.ListN.{length}
-use Rattle.message.specs.Answer.{packed, wordRead}
+use Rattle.message.specs.Answer.{packed, wordAnswer}
 use Rattle.message.specs.Word.{callsignOf, locatorOf}
 use Rattle.message.specs.declared.Packed.{Packed}
 use Rattle.message.specs.declared.Unpacked.{Unpacked}
 
 -- The word reads as this message.
 pub record ReadsAs (word : ℕ) (callsign locator : List ℕ) (power : ℕ) : Type 0 where
-  pub its-power : wordRead word ≡ Unpacked.Power power
+  pub in-50-bits : word < 2 ^ 50
+  pub its-power : wordAnswer word ≡ Unpacked.Power power
   pub its-callsign : callsignOf word ≡ callsign
   pub its-locator : locatorOf word ≡ locator
 
@@ -21,17 +22,18 @@ abbrev pub ReadsBack : Packed → List ℕ → List ℕ → ℕ → Type 0
 ReadsBack (Packed.Word w) callsign locator power = ReadsAs w callsign locator power
 ReadsBack (Packed.Refused f) callsign locator power = Unit
 
--- What was read writes back: the callsign and locator with the answer's power, where it has one, have the word.
-abbrev pub WritesBack : Unpacked → ℕ → List ℕ → List ℕ → Type 0
-WritesBack (Unpacked.Power p) word callsign locator = packed callsign locator p ≡ Packed.Word word
-WritesBack (Unpacked.Refused f) word callsign locator = Unit
+-- What was read packs back: the callsign and locator with the answer's power, where it has one, have the word.
+abbrev pub PacksBack : Unpacked → ℕ → List ℕ → List ℕ → Type 0
+PacksBack (Unpacked.Power p) word callsign locator = packed callsign locator p ≡ Packed.Word word
+PacksBack (Unpacked.Refused f) word callsign locator = Unit
 
 -- The answer is a refusal.
 abbrev pub IsRefused : Unpacked → Type 0
 IsRefused (Unpacked.Power p) = ⊥
 IsRefused (Unpacked.Refused f) = Unit
 
--- No message has this word.
+-- No message has this word. Lists of numbers that are no bytes and powers that are no u32 are never legal, so that nothing is added by
+-- naming them here.
 abbrev pub NeverMade : ℕ → Type 0
 NeverMade word = (callsign locator : List ℕ) (power : ℕ) → packed callsign locator power ≡ Packed.Word word → ⊥
 

@@ -15,15 +15,16 @@ callsignRadices = 37 ∷ 36 ∷ 10 ∷ 27 ∷ 27 ∷ 27 ∷ []
 unfoldable pub callsignNumber : List ℕ → ℕ
 callsignNumber callsign = numberOf callsignRadices (digitsFrom 0 callsign)
 
--- "With locator values a b c d, letters from A = 0: M1 = (179 - 10a - c)·180 + 10b + d"
-unfoldable pub locatorNumberOf : ℕ → ℕ → ℕ → ℕ → ℕ
-locatorNumberOf a b c d = (179 - 10 * a - c) * 180 + 10 * b + d
+-- "With locator values a b c d, letters from A = 0: M1 = (179 - 10a - c)·180 + 10b + d". For legal values, a up to 17 and c up to 9,
+-- no difference falls below 0.
+unfoldable pub locatorNumberFrom : ℕ → ℕ → ℕ → ℕ → ℕ
+locatorNumberFrom a b c d = (179 - 10 * a - c) * 180 + 10 * b + d
 
 -- 01: M1
 unfoldable pub locatorNumber : List ℕ → ℕ
 locatorNumber locator =
     let v = digitsFrom 6 locator in
-    locatorNumberOf (getD v 0 0) (getD v 1 0) (getD v 2 0) (getD v 3 0)
+    locatorNumberFrom (getD v 0 0) (getD v 1 0) (getD v 2 0) (getD v 3 0)
 
 -- "M = M1·128 + power + 64"
 unfoldable pub lowerNumber : ℕ → ℕ → ℕ
@@ -33,6 +34,7 @@ lowerNumber m1 power = m1 * 128 + power + 64
 unfoldable pub wordFrom : ℕ → ℕ → ℕ
 wordFrom n m = n * 2 ^ 22 + m
 
+-- The word of a message.
 unfoldable pub wordOf : List ℕ → List ℕ → ℕ → ℕ
 wordOf callsign locator power = wordFrom (callsignNumber callsign) (lowerNumber (locatorNumber locator) power)
 
@@ -48,13 +50,16 @@ locatorPart word = word % 2 ^ 22 / 128
 
 -- The low seven bits, the power plus 64
 unfoldable pub powerPart : ℕ → ℕ
-powerPart word = word % 2 ^ 22 % 128
+powerPart word = word % 128
 
 -- ---- Reading: the characters of the parts
 
+-- 01 gives no formulas for this direction. None has to be believed: the round trips that `pack` and `unpack` promise (RoundTrip.antt) leave no
+-- other.
+
 -- The callsign with the number N.
-unfoldable pub callsignAt : ℕ → List ℕ
-callsignAt n = charactersFrom 0 (digitsOf callsignRadices n)
+unfoldable pub callsignWithNumber : ℕ → List ℕ
+callsignWithNumber n = charactersFrom 0 (digitsOf callsignRadices n)
 
 -- M1 is 17 - a, 9 - c, b, d in the radices 18, 10, 18, 10.
 unfoldable pub locatorRadices : List ℕ
@@ -65,11 +70,13 @@ unfoldable pub locatorValues : List ℕ → List ℕ
 locatorValues ds = (17 - getD ds 0 0) ∷ getD ds 2 0 ∷ (9 - getD ds 1 0) ∷ getD ds 3 0 ∷ []
 
 -- The locator with the number M1.
-unfoldable pub locatorAt : ℕ → List ℕ
-locatorAt m1 = charactersFrom 6 (locatorValues (digitsOf locatorRadices m1))
+unfoldable pub locatorWithNumber : ℕ → List ℕ
+locatorWithNumber m1 = charactersFrom 6 (locatorValues (digitsOf locatorRadices m1))
 
+-- The callsign of a word.
 unfoldable pub callsignOf : ℕ → List ℕ
-callsignOf word = callsignAt (callsignPart word)
+callsignOf word = callsignWithNumber (callsignPart word)
 
+-- The locator of a word.
 unfoldable pub locatorOf : ℕ → List ℕ
-locatorOf word = locatorAt (locatorPart word)
+locatorOf word = locatorWithNumber (locatorPart word)

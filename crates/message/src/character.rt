@@ -87,7 +87,8 @@ pub(crate) fn first_bad_of(callsign: &[u8], locator: &[u8]) -> usize
     first_bad(6, locator)
 }
 
-// A legal character's value, counted from the lowest of its set.
+// A character's value, counted from the lowest of its place's set: 0 below it, as the definition's
+// difference is.
 fn digit_at(place: usize, byte: u8) -> u64
     requires { ⌜ place < 10 ⌝ }
     ensures { λ r. ⌜ r ≡ digitAt place byte ⌝ }

@@ -3,10 +3,8 @@ mod character;
 mod word;
 
 ghost use mathlib.Core.Path.{_≡_};
-ghost use mathlib.Core.Bool.{_&&_};
-ghost use lib.Dec.{eqb};
-ghost use Rattle.message.specs.Answer.{packed, unpacked, callsignAfter, locatorAfter};
-ghost use Rattle.message.specs.RoundTrip.{ReadsBack, WritesBack, RefusesExactly};
+ghost use Rattle.message.specs.Answer.{rightLengths, packed, unpacked, callsignAfter, locatorAfter};
+ghost use Rattle.message.specs.RoundTrip.{ReadsBack, PacksBack, RefusesExactly};
 use refusal::BAD_CHARACTER;
 use refusal::BAD_POWER;
 use refusal::Refusal;
@@ -24,9 +22,9 @@ pub enum Unpacked {
     Refused(Refusal),
 }
 
-// Of a callsign and a locator of these lengths, each has its own.
+// Both lengths are right: 6 for a callsign, 4 for a locator.
 fn right_lengths(callsign: usize, locator: usize) -> bool
-    ensures { λ r. ⌜ r ≡ (eqb callsign 6 && eqb locator 4) ⌝ }
+    ensures { λ r. ⌜ r ≡ rightLengths callsign locator ⌝ }
 {
     callsign == 6 && locator == 4
 }
@@ -49,23 +47,23 @@ pub fn pack(callsign: &[u8], locator: &[u8], power: u32) -> Packed
             place: bad as u32,
         });
     }
-    if 19 <= power::index_of(power) {
+    if !power::is_legal(power) {
         return Packed::Refused(Refusal {
             number: BAD_POWER,
             place: 0,
         });
     }
-    let callsign_number = word::number_of_callsign(callsign);
-    let locator_number = word::number_of_locator(locator);
-    Packed::Word(word::assemble(callsign_number, locator_number, power))
+    let n = word::callsign_number(callsign);
+    let m1 = word::locator_number(locator);
+    Packed::Word(word::assemble(n, m1, power))
 }
 
 // The message of a word: its callsign and locator are written, its power is the answer.
 pub fn unpack(word: u64, callsign: &mut [u8], locator: &mut [u8]) -> Unpacked
     ensures answer { λ r. ⌜ r ≡ unpacked (now (callsign .entry)) (now (locator .entry)) word ⌝ }
-    ensures its_callsign { λ _. ⌜ now (callsign .exit) ≡ callsignAfter (now (callsign .entry)) (now (locator .entry)) word ⌝ }
-    ensures its_locator { λ _. ⌜ now (locator .exit) ≡ locatorAfter (now (callsign .entry)) (now (locator .entry)) word ⌝ }
-    ensures writes_back { λ r. ⌜ WritesBack r word (now (callsign .exit)) (now (locator .exit)) ⌝ }
+    ensures callsign_after { λ _. ⌜ now (callsign .exit) ≡ callsignAfter (now (callsign .entry)) (now (locator .entry)) word ⌝ }
+    ensures locator_after { λ _. ⌜ now (locator .exit) ≡ locatorAfter (now (callsign .entry)) (now (locator .entry)) word ⌝ }
+    ensures packs_back { λ r. ⌜ PacksBack r word (now (callsign .exit)) (now (locator .exit)) ⌝ }
     ensures refuses_exactly { λ r. ⌜ RefusesExactly r word (now (callsign .entry)) (now (locator .entry)) ⌝ }
 {
     if !right_lengths(callsign.len(), locator.len()) {
@@ -74,11 +72,11 @@ pub fn unpack(word: u64, callsign: &mut [u8], locator: &mut [u8]) -> Unpacked
             place: 0,
         });
     }
-    let answer = word::read_power(word);
+    let answer = word::read_word(word);
     let Unpacked::Power(power) = answer else {
         return answer;
     };
-    word::write_callsign(word >> 22, callsign);
-    word::write_locator((word % (1 << 22)) >> 7, locator);
+    word::write_callsign(word, callsign);
+    word::write_locator(word, locator);
     Unpacked::Power(power)
 }

@@ -1,10 +1,10 @@
-// The numbers in a word: the callsign's, the locator's and the power, both ways.
+// The numbers in a word: the callsign's (01: N), the locator's (01: M1) and the power, both ways.
 ghost use mathlib.Core.Path.{_≡_};
 ghost use Prim.Native.Nat.{_≤_, _<_, _^_};
 ghost use lib.ListN.{length};
 ghost use Rattle.message.specs.Character.{firstBad};
-ghost use Rattle.message.specs.Word.{callsignNumber, locatorNumber, lowerNumber, wordFrom, callsignAt, locatorAt};
-ghost use Rattle.message.specs.Answer.{wordRead};
+ghost use Rattle.message.specs.Word.{callsignNumber, locatorNumber, lowerNumber, wordFrom, callsignPart, locatorPart, callsignOf, locatorOf};
+ghost use Rattle.message.specs.Answer.{wordAnswer};
 use super::Unpacked;
 use super::character::read_digits;
 use super::character::write_characters;
@@ -13,12 +13,18 @@ use refusal::BAD_POWER_BITS;
 use refusal::Refusal;
 use refusal::WORD_TOO_LARGE;
 
+// The sizes of the sets of places 0 to 5, and how many callsigns they make.
 const CALLSIGN_RADICES: [u64; 6] = [37, 36, 10, 27, 27, 27];
 
+const CALLSIGNS: u64 = 262_177_560;
+
+// For 17 - a, 9 - c, b, d of a locator's values a b c d, and how many locators they make.
 const LOCATOR_RADICES: [u64; 4] = [18, 10, 18, 10];
 
+const LOCATORS: u64 = 32_400;
+
 // The number of a callsign of legal characters.
-pub(crate) fn number_of_callsign(callsign: &[u8]) -> u64
+pub(crate) fn callsign_number(callsign: &[u8]) -> u64
     requires { ⌜ length (now callsign) ≡ 6 ⌝ }
     requires { ⌜ firstBad 0 (now callsign) ≡ 6 ⌝ }
     ensures { λ r. ⌜ r ≡ callsignNumber (now (callsign .entry)) ⌝ }
@@ -29,7 +35,7 @@ pub(crate) fn number_of_callsign(callsign: &[u8]) -> u64
 }
 
 // The number of a locator of legal characters.
-pub(crate) fn number_of_locator(locator: &[u8]) -> u64
+pub(crate) fn locator_number(locator: &[u8]) -> u64
     requires { ⌜ length (now locator) ≡ 4 ⌝ }
     requires { ⌜ firstBad 6 (now locator) ≡ 10 ⌝ }
     ensures { λ r. ⌜ r ≡ locatorNumber (now (locator .entry)) ⌝ }
@@ -51,26 +57,39 @@ pub(crate) fn assemble(callsign: u64, locator: u64, power: u32) -> u64
     (callsign << 22) | lower
 }
 
-// The power of a word that is a message's, or why it isn't. A word of 2^50 or more has a callsign
-// number past the end too.
-pub(crate) fn read_power(word: u64) -> Unpacked
-    ensures { λ r. ⌜ r ≡ wordRead word ⌝ }
+// The callsign's number in a word, its upper 28 bits.
+fn callsign_part(word: u64) -> u64
+    ensures { λ r. ⌜ r ≡ callsignPart word ⌝ }
 {
-    if 262_177_560 <= word >> 22 {
+    word >> 22
+}
+
+// The locator's number in a word, the 15 bits above the low seven.
+fn locator_part(word: u64) -> u64
+    ensures { λ r. ⌜ r ≡ locatorPart word ⌝ }
+{
+    (word % (1 << 22)) >> 7
+}
+
+// The power of a word that is a message's, or why it isn't. A word of 2^50 or more has a callsign
+// number past the end too, so that one test serves for both.
+pub(crate) fn read_word(word: u64) -> Unpacked
+    ensures { λ r. ⌜ r ≡ wordAnswer word ⌝ }
+{
+    if CALLSIGNS <= callsign_part(word) {
         return Unpacked::Refused(Refusal {
             number: WORD_TOO_LARGE,
             place: 0,
         });
     }
-    let lower = word % (1 << 22);
-    if 32_400 <= lower >> 7 {
+    if LOCATORS <= locator_part(word) {
         return Unpacked::Refused(Refusal {
             number: BAD_LOCATOR_NUMBER,
             place: 0,
         });
     }
-    let bits = (lower % 128) as u32;
-    if bits < 64 || 19 <= power::index_of(bits - 64) {
+    let bits = (word % 128) as u32;
+    if bits < 64 || !power::is_legal(bits - 64) {
         return Unpacked::Refused(Refusal {
             number: BAD_POWER_BITS,
             place: 0,
@@ -79,23 +98,23 @@ pub(crate) fn read_power(word: u64) -> Unpacked
     Unpacked::Power(bits - 64)
 }
 
-// Writes the callsign with this number.
-pub(crate) fn write_callsign(number: u64, callsign: &mut [u8])
+// Writes the callsign of a word.
+pub(crate) fn write_callsign(word: u64, callsign: &mut [u8])
     requires { ⌜ length (now callsign) ≡ 6 ⌝ }
-    ensures { λ _. ⌜ now (callsign .exit) ≡ callsignAt number ⌝ }
+    ensures { λ _. ⌜ now (callsign .exit) ≡ callsignOf word ⌝ }
 {
     let mut digits = [0u64; 6];
-    radix::unpack(number, &CALLSIGN_RADICES, &mut digits);
+    radix::unpack(callsign_part(word), &CALLSIGN_RADICES, &mut digits);
     write_characters(0, &digits, callsign);
 }
 
-// Writes the locator with this number.
-pub(crate) fn write_locator(number: u64, locator: &mut [u8])
+// Writes the locator of a word.
+pub(crate) fn write_locator(word: u64, locator: &mut [u8])
     requires { ⌜ length (now locator) ≡ 4 ⌝ }
-    ensures { λ _. ⌜ now (locator .exit) ≡ locatorAt number ⌝ }
+    ensures { λ _. ⌜ now (locator .exit) ≡ locatorOf word ⌝ }
 {
     let mut digits = [0u64; 4];
-    radix::unpack(number, &LOCATOR_RADICES, &mut digits);
+    radix::unpack(locator_part(word), &LOCATOR_RADICES, &mut digits);
     let values = [17 - digits[0], digits[2], 9 - digits[1], digits[3]];
     write_characters(6, &values, locator);
 }

@@ -2,11 +2,11 @@
 use mathlib.Core.Path.{_≡_, refl, sym, ap}
 use Prim.Native.Nat.{ℕ, suc, _≤_, _<_}
 use native.Mathlib.Omega.{arith}
-use mathlib.Core.Bool.{true, false}
+use mathlib.Core.Bool.{true}
 use mathlib.Core.List.{List, [], _∷_}
 use lib.Dec.{eqb, leb}
 use lib.ListN.{length, getD, List·getD-eq-default}
-use borrow.Author.Tests.{ltb-true, lt-ltb, le-ltb, leb-true, eqb-true, eq-eqb, ne-eqb}
+use borrow.Author.Tests.{ltb-true, leb-true, eqb-true, eq-eqb, ne-eqb}
 use Rattle.basics.proofs.Choice.{equal-or-not, below-or-not}
 use Rattle.basics.proofs.Tables.{every-at, below-at}
 use Rattle.power.specs.Powers.{powers, indexIn, powerIndex, powerAt, legalPower}
@@ -31,17 +31,9 @@ unfolding powerIndex powerAt powers indexIn
 powerIndex-powerAt index h =
     eqb-true _ _ (below-at (λ (i : ℕ). eqb (powerIndex (powerAt i)) i) 19 refl index h)
 
-pub legal-index : (power : ℕ) → legalPower power ≡ true → powerIndex power < 19
-unfolding legalPower
+legal-index : (power : ℕ) → legalPower power ≡ true → powerIndex power < 19
+unfolding legalPower powers
 legal-index power e = ltb-true _ _ e
-
-pub legal-by-index : (power : ℕ) → powerIndex power < 19 → legalPower power ≡ true
-unfolding legalPower
-legal-by-index power h = lt-ltb _ _ h
-
-pub illegal-by-index : (power : ℕ) → 19 ≤ powerIndex power → legalPower power ≡ false
-unfolding legalPower
-illegal-by-index power h = le-ltb _ _ h
 
 pub legal-power-end : (power : ℕ) → legalPower power ≡ true → power ≤ 60
 unfolding powerAt powers
@@ -50,9 +42,9 @@ legal-power-end power e =
     let end : powerAt (powerIndex power) ≤ 60 = leb-true _ _ (every-at (λ (p : ℕ). leb p 60) powers 0 refl refl (powerIndex power)) in
     omega arith
 
--- ---- Numbers that a decision by single numbers leaves over
+-- ---- The last arm of a decision
 
--- As such a decision tells it: A, and the number is none of the list, which the last of the list ends.
+-- What the last arm of a `match` on single numbers knows: A, and n is none of the list.
 abbrev pub NoneOf : Type 0 → ℕ → List ℕ → Type 0
 NoneOf A n [] = A
 NoneOf A n (x ∷ xs) = NoneOf (A × (n ≡ x → ⊥)) n xs

@@ -3,7 +3,7 @@ use Prim.Native.Nat.{ℕ, suc}
 use mathlib.Core.Bool.{Bool, cond}
 use mathlib.Core.List.{List, [], _∷_}
 use lib.Dec.{eqb, ltb}
-use lib.ListN.{getD}
+use lib.ListN.{length, getD}
 
 -- "Power is one of 19: 0 3 7 10 13 17 20 23 27 30 33 37 40 43 47 50 53 57 60, with index 0 to 18 in that order."
 unfoldable pub powers : List ℕ
@@ -22,5 +22,6 @@ powerIndex power = indexIn power powers
 unfoldable pub powerAt : ℕ → ℕ
 powerAt index = getD powers index 0
 
+-- The power is one of them.
 unfoldable pub legalPower : ℕ → Bool
-legalPower power = ltb (powerIndex power) 19
+legalPower power = ltb (powerIndex power) (length powers)

@@ -1,6 +1,6 @@
 // The 19 legal powers, in dBm, and their indexes.
 ghost use mathlib.Core.Path.{_≡_};
-ghost use Rattle.power.specs.Powers.{powerIndex, powerAt};
+ghost use Rattle.power.specs.Powers.{powerIndex, powerAt, legalPower};
 
 // The index of a power, 0 to 18; 19 where it isn't legal.
 pub fn index_of(power: u32) -> u32
@@ -28,6 +28,13 @@ pub fn index_of(power: u32) -> u32
         60 => 18,
         _ => 19,
     }
+}
+
+// The power is one of the 19.
+pub fn is_legal(power: u32) -> bool
+    ensures { λ r. ⌜ r ≡ legalPower power ⌝ }
+{
+    index_of(power) < 19
 }
 
 // The power with an index from 0 to 18; 0 past them.

@@ -1,8 +1,8 @@
 -- The laws of mixed-radix numerals: the bound, digits in range, the two inverses, injectivity, and a number that is
 -- written in one list of radices and read in another.
 use mathlib.Core.Path.{_≡_, refl, sym, ap, _∙_, subst}
-use Prim.Native.Nat.{ℕ, suc, _+_, _*_, _/_, _%_, _≤_, _<_}
-use native.Mathlib.Nat.{add-assoc, add-mul, mul-assoc, one-mul, zero-mul, zero-add, mul-pos, mod-lt, mod-eq-of-lt, mul-add-div-right, mul-add-mod-self-right, le-trans, div-lt-iff-lt-mul, div-eq-of-lt}
+use Prim.Native.Nat.{ℕ, suc, _+_, _*_, _/_, _%_, _<_}
+use native.Mathlib.Nat.{add-assoc, add-mul, mul-assoc, one-mul, zero-mul, zero-add, mul-pos, mod-lt, mod-eq-of-lt, mul-add-div-right, mul-add-mod-self-right, div-lt-iff-lt-mul, div-eq-of-lt}
 use native.Mathlib.Omega.{arith}
 use mathlib.Core.List.{List, [], _∷_}
 use lib.ListN.{length}
@@ -47,7 +47,7 @@ numberFrom-front n (r ∷ rs) (d ∷ ds) h =
     rw (numberFrom-front (n * r + d) rs ds (h .1), numberFrom-front (0 * r + d) rs ds (h .1)) (regroup n r d (count rs) (numberFrom 0 rs ds))
 
 -- The highest digit counts as many times as the radices after it have numerals.
-pub numberOf-cons : (r d : ℕ) (rs ds : List ℕ) → Digits rs ds → numberOf (r ∷ rs) (d ∷ ds) ≡ d * count rs + numberOf rs ds
+numberOf-cons : (r d : ℕ) (rs ds : List ℕ) → Digits rs ds → numberOf (r ∷ rs) (d ∷ ds) ≡ d * count rs + numberOf rs ds
 unfolding numberOf numberFrom
 numberOf-cons r d rs ds h = rw (zero-mul, zero-add) (numberFrom-front d rs ds h)
 
@@ -91,8 +91,8 @@ digitsOf-numberOf (r ∷ rs) (d ∷ ds) h =
       digitsOf-numberOf rs ds (h .1),
     )
 
--- In general, what is left of a number is the number modulo the count.
-pub numberOf-digitsOf-mod : (rs : List ℕ) (n : ℕ) → Positive rs → numberOf rs (digitsOf rs n) ≡ n % count rs
+-- For any number, packing its digits gives the number modulo the count.
+numberOf-digitsOf-mod : (rs : List ℕ) (n : ℕ) → Positive rs → numberOf rs (digitsOf rs n) ≡ n % count rs
 unfolding Positive count numberOf numberFrom digitsOf
 numberOf-digitsOf-mod [] n h = omega arith
 numberOf-digitsOf-mod (r ∷ rs) n h =
@@ -111,11 +111,10 @@ numberOf-digitsOf rs {n} h below = numberOf-digitsOf-mod rs n h ∙ mod-eq-of-lt
 pub numberOf-injective : (rs ds es : List ℕ) → Digits rs ds → Digits rs es → numberOf rs ds ≡ numberOf rs es → ds ≡ es
 numberOf-injective rs ds es h k e = sym (digitsOf-numberOf rs ds h) ∙ ap (digitsOf rs) e ∙ digitsOf-numberOf rs es k
 
--- Written in one list of radices and read in another, with room for all of the first, a number comes back.
-pub digitsOf-repacked : (rs ss ds : List ℕ) → Digits rs ds → Positive ss → count rs ≤ count ss
+-- A number that is written in one list of radices, and read and written again in another that has room for it, comes back.
+pub digitsOf-repacked : (rs ss ds : List ℕ) → Digits rs ds → Positive ss → numberOf rs ds < count ss
     → digitsOf rs (numberOf ss (digitsOf ss (numberOf rs ds))) ≡ ds
-digitsOf-repacked rs ss ds h k room =
-    ap (digitsOf rs) (numberOf-digitsOf ss k (le-trans (number-below rs ds h) room)) ∙ digitsOf-numberOf rs ds h
+digitsOf-repacked rs ss ds h k room = ap (digitsOf rs) (numberOf-digitsOf ss k room) ∙ digitsOf-numberOf rs ds h
 
 -- What is left above the highest digit is 0 exactly for the numbers that have a numeral.
 pub rest-zero : (rs : List ℕ) (n : ℕ) → Positive rs → (n / count rs ≡ 0) ↔ (n < count rs)

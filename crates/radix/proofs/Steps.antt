@@ -12,7 +12,7 @@ use Rattle.radix.proofs.Laws.{digits-length, digits-positive, count-pos
 
 -- ---- pack
 
-pub digits-drop : (i : ℕ) (rs ds : List ℕ) → Digits rs ds → Digits (drop i rs) (drop i ds)
+digits-drop : (i : ℕ) (rs ds : List ℕ) → Digits rs ds → Digits (drop i rs) (drop i ds)
 unfolding Digits
 digits-drop zero rs ds h = h
 digits-drop (suc i) [] [] h = h

@@ -29,7 +29,7 @@ numberFrom n (r ∷ rs) (d ∷ ds) = numberFrom (n * r + d) rs ds
 unfoldable pub numberOf : List ℕ → List ℕ → ℕ
 numberOf rs ds = numberFrom 0 rs ds
 
--- The digits of n: what the later radices leave of it, modulo the digit's own radix.
+-- The digits of n: n divided by the count of the later radices, modulo the digit's own radix.
 unfoldable pub digitsOf : List ℕ → ℕ → List ℕ
 digitsOf [] n = []
 digitsOf (r ∷ rs) n = (n / count rs % r) ∷ digitsOf rs n

@@ -24,7 +24,7 @@ pub fn pack(radices: &[u64], digits: &[u64]) -> u64
 }
 
 // Writes the digits of the number, and returns what is left of it above the highest digit: 0 exactly
-// for the numbers that have a numeral in these radices.
+// for the numbers that have a numeral in these radices (`rest-zero` in proofs/Laws.antt).
 pub fn unpack(number: u64, radices: &[u64], digits: &mut [u64]) -> u64
     requires { ⌜ Positive (now radices) ⌝ }
     requires { ⌜ length (now digits) ≡ length (now radices) ⌝ }

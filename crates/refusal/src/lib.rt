@@ -2,7 +2,7 @@
 
 pub struct Refusal {
     pub number: u32,
-    // 0 where the number below names no place.
+    // 0 where the refusal names no place.
     pub place: u32,
 }
 

@@ -1,12 +1,11 @@
--- The one statement over the bench sheet: in every row the definitions give what the sheet states. antt computes both columns.
-use mathlib.Core.Path.{_≡_, refl}
-use mathlib.Core.List.{map}
+-- The bench sheet agrees with the definitions: antt computes both columns of its table.
+use mathlib.Core.Path.{refl}
 use Rattle.radix.specs.Numeral.{numberOf, numberFrom}
 use Rattle.message.specs.Character.{value, callsignSets, locatorSets, setAt, digitAt, overPlaces, digitsFrom}
-use Rattle.message.specs.Word.{callsignRadices, callsignNumber, locatorNumberOf, locatorNumber, lowerNumber}
-use Rattle.worked_examples.specs.BenchSheet.{Row, bytes, number, benchSheet}
+use Rattle.message.specs.Word.{callsignRadices, callsignNumber, locatorNumberFrom, locatorNumber, lowerNumber}
+use Rattle.worked_examples.specs.BenchSheet.{bytes, number, benchSheet, BenchSheetAgrees}
 
-pub bench-sheet-agrees : map (λ (r : Row). r .given) benchSheet ≡ map (λ (r : Row). r .stated) benchSheet
+pub bench-sheet-agrees : BenchSheetAgrees
 unfolding numberOf numberFrom value callsignSets locatorSets setAt digitAt overPlaces digitsFrom callsignRadices callsignNumber
-    locatorNumberOf locatorNumber lowerNumber bytes number benchSheet
+    locatorNumberFrom locatorNumber lowerNumber bytes number benchSheet BenchSheetAgrees
 bench-sheet-agrees = refl

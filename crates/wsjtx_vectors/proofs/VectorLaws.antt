@@ -8,7 +8,7 @@ use mathlib.Core.List.{List}
 use lib.Dec.{eqb, leb}
 use lib.ListN.{length}
 use borrow.Author.Tests.{leb-true, eq-eqb, ne-eqb}
-use Rattle.basics.proofs.Choice.{and-true, cond-held, between-true, between-below, between-above}
+use Rattle.basics.proofs.Choice.{both-true, cond-held, between-true, between-below, between-above}
 use Rattle.basics.specs.Test.{between}
 use Rattle.wsjtx_vectors.specs.Field.{fieldAt}
 use Rattle.wsjtx_vectors.specs.Number.{numberIn}
@@ -45,7 +45,7 @@ module _ (text : List ℕ) where
   unfolding powerIn
   power-below v e =
       let held = cond-held (between 1 2 (length text)) e (λ other. let z : _≡_ {A = ℕ} 0 1 = cc in omega arith) in
-      let short = leb-true (length text) 2 (and-true (leb 1 (length text)) (leb (length text) 2) (held .0) .1) in
+      let short = leb-true (length text) 2 (both-true (leb 1 (length text)) (leb (length text) 2) (held .0) .1) in
       let below : v < 10 ^ length text = number-below 10 text v (held .1) in
       let hundred : 10 ^ length text ≤ 10 ^ 2 = pow-le-pow-right {n = 10} (omega arith) short in
       omega arith

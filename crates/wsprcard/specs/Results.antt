@@ -11,7 +11,7 @@ use Rattle.message.specs.declared.Unpacked.{Unpacked}
 use Rattle.wsprcard.specs.declared.WsprWord.{WsprWord}
 use Rattle.wsprcard.specs.declared.WsprMessage.{WsprMessage}
 
--- ---- The answers' result numbers, field by field
+-- ---- The answers' result numbers, as the layer's definition gives them, field by field
 
 unfoldable pub wordResult : Packed → WsprWord
 wordResult answer =
@@ -32,13 +32,13 @@ messageResult answer =
 -- ---- What the calls promise of each other: a refusal number of 0 is success
 
 -- What was packed reads back.
-abbrev pub PackedReadsBack : WsprWord → List ℕ → List ℕ → ℕ → Type 0
-PackedReadsBack r callsign locator power = r .refusal ≡ 0 → ReadsAs (r .word) callsign locator power
+abbrev pub WordReadsBack : WsprWord → List ℕ → List ℕ → ℕ → Type 0
+WordReadsBack r callsign locator power = r .refusal ≡ 0 → ReadsAs (r .word) callsign locator power
 
 -- What was read packs back.
-abbrev pub ReadPacksBack : WsprMessage → ℕ → List ℕ → List ℕ → Type 0
-ReadPacksBack r word callsign locator = r .refusal ≡ 0 → packed callsign locator (r .power) ≡ Packed.Word word
+abbrev pub MessagePacksBack : WsprMessage → ℕ → List ℕ → List ℕ → Type 0
+MessagePacksBack r word callsign locator = r .refusal ≡ 0 → packed callsign locator (r .power) ≡ Packed.Word word
 
 -- With a callsign of six bytes and a locator of four lent, the word is refused exactly where no message has it.
-abbrev pub RefusesExactly : WsprMessage → ℕ → List ℕ → List ℕ → Type 0
-RefusesExactly r word callsign locator = length callsign ≡ 6 → length locator ≡ 4 → (r .refusal ≡ 0 → ⊥) ↔ NeverMade word
+abbrev pub WordRefusedExactly : WsprMessage → ℕ → List ℕ → List ℕ → Type 0
+WordRefusedExactly r word callsign locator = length callsign ≡ 6 → length locator ≡ 4 → (r .refusal ≡ 0 → ⊥) ↔ NeverMade word

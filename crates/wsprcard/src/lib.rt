@@ -2,7 +2,7 @@
 // its crate, with the answer's result numbers in a struct.
 ghost use mathlib.Core.Path.{_≡_};
 ghost use Rattle.message.specs.Answer.{packed, unpacked, callsignAfter, locatorAfter};
-ghost use Rattle.wsprcard.specs.Results.{wordResult, messageResult, PackedReadsBack, ReadPacksBack, RefusesExactly};
+ghost use Rattle.wsprcard.specs.Results.{wordResult, messageResult, WordReadsBack, MessagePacksBack, WordRefusedExactly};
 use message::Packed;
 use message::Unpacked;
 
@@ -26,7 +26,7 @@ pub struct WsprMessage {
 #[no_mangle]
 pub extern "C" fn wspr_pack(callsign: &[u8], locator: &[u8], power: u32) -> WsprWord
     ensures answer { λ r. ⌜ r ≡ wordResult (packed (now (callsign .entry)) (now (locator .entry)) power) ⌝ }
-    ensures reads_back { λ r. ⌜ PackedReadsBack r (now (callsign .entry)) (now (locator .entry)) power ⌝ }
+    ensures reads_back { λ r. ⌜ WordReadsBack r (now (callsign .entry)) (now (locator .entry)) power ⌝ }
 {
     match message::pack(callsign, locator, power) {
         Packed::Word(word) => WsprWord {
@@ -46,10 +46,10 @@ pub extern "C" fn wspr_pack(callsign: &[u8], locator: &[u8], power: u32) -> Wspr
 #[no_mangle]
 pub extern "C" fn wspr_unpack(word: u64, callsign: &mut [u8], locator: &mut [u8]) -> WsprMessage
     ensures answer { λ r. ⌜ r ≡ messageResult (unpacked (now (callsign .entry)) (now (locator .entry)) word) ⌝ }
-    ensures its_callsign { λ _. ⌜ now (callsign .exit) ≡ callsignAfter (now (callsign .entry)) (now (locator .entry)) word ⌝ }
-    ensures its_locator { λ _. ⌜ now (locator .exit) ≡ locatorAfter (now (callsign .entry)) (now (locator .entry)) word ⌝ }
-    ensures packs_back { λ r. ⌜ ReadPacksBack r word (now (callsign .exit)) (now (locator .exit)) ⌝ }
-    ensures refuses_exactly { λ r. ⌜ RefusesExactly r word (now (callsign .entry)) (now (locator .entry)) ⌝ }
+    ensures callsign_after { λ _. ⌜ now (callsign .exit) ≡ callsignAfter (now (callsign .entry)) (now (locator .entry)) word ⌝ }
+    ensures locator_after { λ _. ⌜ now (locator .exit) ≡ locatorAfter (now (callsign .entry)) (now (locator .entry)) word ⌝ }
+    ensures packs_back { λ r. ⌜ MessagePacksBack r word (now (callsign .exit)) (now (locator .exit)) ⌝ }
+    ensures refuses_exactly { λ r. ⌜ WordRefusedExactly r word (now (callsign .entry)) (now (locator .entry)) ⌝ }
 {
     match message::unpack(word, callsign, locator) {
         Unpacked::Power(power) => WsprMessage {

@@ -6,21 +6,20 @@ use mathlib.Core.Bool.{true}
 use native.Mathlib.Omega.{arith}
 use borrow.Author.Needs.{needs}
 use borrow.Author.Tests.{not-true, not-false}
+use lib.ListN.{length}
 use Rattle.message.specs.Answer.{rightLengths}
 use Rattle.message.specs.Word.{wordOf}
 use Rattle.message.specs.declared.Packed.{Packed}
 use Rattle.message.proofs.CharacterLaws.{none-bad}
-use Rattle.power.proofs.Laws.{legal-by-index, illegal-by-index, legal-power-end}
+use Rattle.power.proofs.Laws.{legal-power-end}
 use Rattle.message.proofs.WordLaws.{callsignNumber-below, locatorNumber-below}
 use Rattle.message.proofs.AnswerLaws.{Legal, lengths-of-right, legal-message, packed-length, packed-character, packed-power, packed-word}
 use Rattle.message.proofs.RoundTripLaws.{unpack-pack}
-use borrow.Author.Needs.{needs}
 use Rattle.message.proofs.pack.Statement.{statement}
 use Rattle.message.proofs.pack.Tie as tie
 
 -- Past the first test both lengths are right.
-right : (c : tie.Else1) → rightLengths (c .before .before .before .before .args .callsign .now) (c .before .before .before .before .args .locator .now) ≡ true
-unfolding rightLengths
+right : (c : tie.Else1) → rightLengths (length (c .before .before .before .before .args .callsign .now)) (length (c .before .before .before .before .args .locator .now)) ≡ true
 right c = sym (c .before .right-lengths .ensures) ∙ not-false _ (c .if1 .left)
 
 -- Past all tests the message is legal.
@@ -28,13 +27,12 @@ legal : (c : tie.Else3) → let a = c .before .before .before .before .before .b
     Legal (a .callsign .now) (a .locator .now) (a .power)
 legal c =
     let e = c .before .before .before .before in
-    legal-message _ _ _ (right e) (omega arith) (legal-by-index _ (omega arith))
+    legal-message _ _ _ (right e) (omega arith) (sym (c .before .is-legal .ensures) ∙ not-false _ (c .if3 .left))
 
 right-lengths-requires : tie.Need-right-lengths-requires
 right-lengths-requires c κs = search needs
 
 returns : tie.Need-returns
-unfolding rightLengths
 returns c =
     let a = c .before .before .before .before .args in
     (sym (packed-length (a .callsign .now) (a .locator .now) (a .power) (sym (c .before .right-lengths .ensures) ∙ not-true _ (c .if1 .taken))), tt)
@@ -53,22 +51,22 @@ returns-2 c =
     let a = e .before .before .before .before .args in
     (sym (packed-character (a .callsign .now) (a .locator .now) (a .power) (right e) _ (sym (c .before .first-bad-of .ensures)) (c .if2 .taken)), tt)
 
-index-of-requires : tie.Need-index-of-requires
-index-of-requires c κs = search needs
+is-legal-requires : tie.Need-is-legal-requires
+is-legal-requires c κs = search needs
 
 returns-3 : tie.Need-returns-3
 returns-3 c =
     let e = c .before .before .before .before in
     let a = e .before .before .before .before .args in
-    (sym (packed-power (a .callsign .now) (a .locator .now) (a .power) (right e) (omega arith) (illegal-by-index _ (omega arith))), tt)
+    (sym (packed-power (a .callsign .now) (a .locator .now) (a .power) (right e) (omega arith) (sym (c .before .is-legal .ensures) ∙ not-true _ (c .if3 .taken))), tt)
 
-number-of-callsign-requires : tie.Need-number-of-callsign-requires
-number-of-callsign-requires c κs =
+callsign-number-requires : tie.Need-callsign-number-requires
+callsign-number-requires c κs =
     let l = legal c in
     (l .six, omega (arith, none-bad 0 _ (l .callsign-legal)))
 
-number-of-locator-requires : tie.Need-number-of-locator-requires
-number-of-locator-requires c κs =
+locator-number-requires : tie.Need-locator-number-requires
+locator-number-requires c κs =
     let l = legal (c .before) in
     (l .four, omega (arith, none-bad 6 _ (l .locator-legal)))
 
@@ -83,8 +81,8 @@ returns-4 c =
     let e = c .before .before .before .before .before .before .before in
     let a = e .before .before .before .before .args in
     let l = legal (c .before .before .before) in
-    let callsign = c .before .before .number-of-callsign .ensures in
-    let locator = c .before .number-of-locator .ensures in
+    let callsign = c .before .before .callsign-number .ensures in
+    let locator = c .before .locator-number .ensures in
     let word : c .assemble .result ≡ wordOf (a .callsign .now) (a .locator .now) (a .power) = cc (c .assemble .ensures) in
     let made = packed-word (a .callsign .now) (a .locator .now) (a .power) (right e) (omega arith) (l .power-legal) ∙ ap Packed.Word (sym word) in
     (sym made, unpack-pack _ _ _ _ made)
@@ -98,9 +96,9 @@ pack-spec =
     first-bad-of-requires
     cast-t12
     returns-2
-    index-of-requires
+    is-legal-requires
     returns-3
-    number-of-callsign-requires
-    number-of-locator-requires
+    callsign-number-requires
+    locator-number-requires
     assemble-requires
     returns-4)

@@ -5,31 +5,28 @@ use mathlib.Core.Path.{_≡_, sym, _∙_}
 use mathlib.Core.Bool.{true}
 use borrow.Author.Needs.{needs}
 use borrow.Author.Tests.{not-true, not-false}
+use lib.ListN.{length}
 use Rattle.message.specs.Answer.{rightLengths}
-use Rattle.message.specs.Word.{callsignPart, locatorPart, callsignOf, locatorOf}
 use Rattle.message.proofs.AnswerLaws.{lengths-of-right, unpacked-length, unpacked-read}
-use Rattle.message.proofs.RoundTripLaws.{met-refused, met-power}
-use borrow.Author.Needs.{needs}
+use Rattle.message.proofs.RoundTripLaws.{promised-refused, promised-power}
 use Rattle.message.proofs.unpack.Statement.{statement}
 use Rattle.message.proofs.unpack.Tie as tie
 
 -- Past the first test both lengths are right.
-right : (c : tie.Else1) → rightLengths (c .before .before .before .before .args .callsign .now) (c .before .before .before .before .args .locator .now) ≡ true
-unfolding rightLengths
+right : (c : tie.Else1) → rightLengths (length (c .before .before .before .before .args .callsign .now)) (length (c .before .before .before .before .args .locator .now)) ≡ true
 right c = sym (c .before .right-lengths .ensures) ∙ not-false _ (c .if1 .left)
 
 right-lengths-requires : tie.Need-right-lengths-requires
 right-lengths-requires c κs = search needs
 
 returns : tie.Need-returns
-unfolding rightLengths
 returns c =
     let a = c .before .before .before .before .args in
-    met-refused (a .callsign .now) (a .locator .now) (a .word) _
+    promised-refused (a .callsign .now) (a .locator .now) (a .word) _
     (unpacked-length (a .callsign .now) (a .locator .now) (a .word) (sym (c .before .right-lengths .ensures) ∙ not-true _ (c .if1 .taken)))
 
-read-power-requires : tie.Need-read-power-requires
-read-power-requires c κs = search needs
+read-word-requires : tie.Need-read-word-requires
+read-word-requires c κs = search needs
 
 enum-known-answer : tie.Need-enum-known-answer
 enum-known-answer c = search needs
@@ -42,17 +39,14 @@ returns-2 c =
     let r = c .before .before in
     let a = r .before .before .before .before .before .args in
     let refused = c .enum-told .given .1 in
-    let answer = sym (r .read-power .ensures) ∙ refused in
-    rw refused (met-refused (a .callsign .now) (a .locator .now) (a .word) _ (unpacked-read (a .callsign .now) (a .locator .now) (a .word) (right (r .before)) ∙ answer))
+    let answer = sym (r .read-word .ensures) ∙ refused in
+    rw refused (promised-refused (a .callsign .now) (a .locator .now) (a .word) _ (unpacked-read (a .callsign .now) (a .locator .now) (a .word) (right (r .before)) ∙ answer))
 
 write-callsign-requires : tie.Need-write-callsign-requires
 write-callsign-requires c κs =
     let e = c .before .before .before .before .before in
     let a = e .before .before .before .before .args in
     lengths-of-right (a .callsign .now) (a .locator .now) (right e) .0
-
-rem-write-locator : tie.Need-rem-write-locator
-rem-write-locator c = search needs
 
 write-locator-requires : tie.Need-write-locator-requires
 write-locator-requires c κs =
@@ -67,7 +61,6 @@ same-length-2 : tie.Need-same-length-2
 same-length-2 c = search needs
 
 returns-3 : tie.Need-returns-3
-unfolding callsignPart locatorPart callsignOf locatorOf
 returns-3 c =
     let w = c .before .before in
     let v = w .before .before .before .before in
@@ -75,8 +68,8 @@ returns-3 c =
     let r = k .before .before in
     let e = r .before in
     let a = e .before .before .before .before .args in
-    let read = sym (r .read-power .ensures) ∙ k .answer .given .1 in
-    rw (v .write-callsign .ensures, w .write-locator .ensures) (met-power (a .callsign .now) (a .locator .now) (a .word) _ (right e) read)
+    let read = sym (r .read-word .ensures) ∙ k .answer .given .1 in
+    rw (v .write-callsign .ensures, w .write-locator .ensures) (promised-power (a .callsign .now) (a .locator .now) (a .word) _ (right e) read)
 
 pub unpack-spec : {M : Type 1} → statement M
 unpack-spec =
@@ -84,12 +77,11 @@ unpack-spec =
     (tie.spec
     right-lengths-requires
     returns
-    read-power-requires
+    read-word-requires
     enum-known-answer
     enum-told
     returns-2
     write-callsign-requires
-    rem-write-locator
     write-locator-requires
     same-length
     same-length-2

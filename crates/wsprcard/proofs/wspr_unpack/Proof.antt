@@ -2,7 +2,7 @@
 -- Assumes nothing.
 use Rattle.message.specs.Answer.{unpackedNumbers}
 use Rattle.wsprcard.specs.Results.{messageResult}
-use Rattle.wsprcard.proofs.MessageResults.{message-met}
+use Rattle.wsprcard.proofs.MessageResults.{message-promised}
 use borrow.Author.Needs.{needs}
 use Rattle.wsprcard.proofs.wspr_unpack.Statement.{statement}
 use Rattle.wsprcard.proofs.wspr_unpack.Tie as tie
@@ -29,7 +29,7 @@ returns c =
     let a = u .before .before .before .before .before .args in
     let promised = u .unpack .ensures in
     rw (c .before .power .given .1) at
-    (message-met (a .callsign .now) (a .locator .now) (a .word) (u .unpack .result) _ _ (promised .0) (promised .1 .0) (promised .1 .1 .0) (promised .1 .1 .1 .0) (promised .1 .1 .1 .1))
+    (message-promised (a .callsign .now) (a .locator .now) (a .word) (u .unpack .result) _ _ (promised .0) (promised .1 .0) (promised .1 .1 .0) (promised .1 .1 .1 .0) (promised .1 .1 .1 .1))
 
 same-length-3 : tie.Need-same-length-3
 same-length-3 c = search needs
@@ -44,7 +44,7 @@ returns-2 c =
     let a = u .before .before .before .before .before .args in
     let promised = u .unpack .ensures in
     rw (c .before .refusal .given .1) at
-    (message-met (a .callsign .now) (a .locator .now) (a .word) (u .unpack .result) _ _ (promised .0) (promised .1 .0) (promised .1 .1 .0) (promised .1 .1 .1 .0) (promised .1 .1 .1 .1))
+    (message-promised (a .callsign .now) (a .locator .now) (a .word) (u .unpack .result) _ _ (promised .0) (promised .1 .0) (promised .1 .1 .0) (promised .1 .1 .1 .0) (promised .1 .1 .1 .1))
 
 pub wspr-unpack-spec : {M : Type 1} → statement M
 wspr-unpack-spec =

@@ -1,7 +1,7 @@
--- `message::word::write_locator` meets its contract: `radix::unpack` gives the digits, whose turned values are below the sizes of their
--- sets, and `write_characters` writes their characters.
+-- `message::word::write_locator` meets its contract: `radix::unpack` gives the digits; the values that they give are below the sizes of
+-- their sets, and `write_characters` writes their characters.
 -- Assumes nothing.
-use mathlib.Core.Path.{refl, sym, ap, _∙_}
+use mathlib.Core.Path.{_≡_, refl, sym, ap, _∙_}
 use native.Mathlib.Omega.{arith}
 use Prim.Native.Nat.{ℕ, _<_}
 use mathlib.Core.List.{List}
@@ -9,18 +9,26 @@ use lib.ListN.{getD}
 use Rattle.radix.specs.Numeral.{Digits, digitsOf}
 use Rattle.radix.proofs.Laws.{digits-in-range}
 use Rattle.message.specs.Character.{charactersFrom}
-use Rattle.message.specs.Word.{locatorRadices, locatorValues, locatorAt}
+use Rattle.message.specs.Word.{locatorRadices, locatorValues, locatorPart, locatorWithNumber, locatorOf}
 use Rattle.message.proofs.WordLaws.{locator-positive, locator-values-at}
 use borrow.Author.Needs.{needs}
 use Rattle.message.proofs.word.write_locator.Statement.{statement}
 use Rattle.message.proofs.word.write_locator.Tie as tie
 
--- The digits that were unpacked are below their radices.
+-- The digits that were unpacked are those of the locator's number.
+its-digits : (c : tie.After-unpack) → c .unpack .last .1 .1 .0 ≡ digitsOf locatorRadices (locatorPart (c .before .before .before .before .before .args .word))
+unfolding locatorRadices
+its-digits c = c .unpack .ensures .1 ∙ ap (digitsOf locatorRadices) (c .before .before .before .locator-part .ensures)
+
+-- So they are below their radices.
 in-range : (c : tie.After-unpack) → (getD (c .unpack .last .1 .1 .0) 0 0 < 18) × (getD (c .unpack .last .1 .1 .0) 1 0 < 10)
 unfolding Digits digitsOf locatorRadices
 in-range c =
-    let d = digits-in-range locatorRadices (c .before .before .before .before .args .number) locator-positive in
-    rw (c .unpack .ensures .1) (d .0, d .1 .0)
+    let d = digits-in-range locatorRadices (locatorPart (c .before .before .before .before .before .args .word)) locator-positive in
+    rw (its-digits c) (d .0, d .1 .0)
+
+locator-part-requires : tie.Need-locator-part-requires
+locator-part-requires c κs = search needs
 
 slice-aggregate-unpack : tie.Need-slice-aggregate-unpack
 slice-aggregate-unpack c = search needs
@@ -35,8 +43,8 @@ unpack-requires c κs = (locator-positive, refl)
 array-read-t6 : tie.Need-array-read-t6
 array-read-t6 c = search needs
 
-sub-t13 : tie.Need-sub-t13
-sub-t13 c =
+sub-t7 : tie.Need-sub-t7
+sub-t7 c =
     let d = in-range (c .before) in
     omega arith
 
@@ -61,28 +69,28 @@ write-characters-requires : tie.Need-write-characters-requires
 unfolding locatorRadices locatorValues
 write-characters-requires c κs =
     let u = c .before .before .before in
-    let a = u .before .before .before .before in
-    rw (u .unpack .ensures .1) (omega (arith, a .pre), (sym (a .pre), locator-values-at (a .args .number)))
+    let a = u .before .before .before .before .before in
+    rw (its-digits u) (omega (arith, a .pre), (sym (a .pre), locator-values-at _))
 
 same-length : tie.Need-same-length
 same-length c = search needs
 
 returns : tie.Need-returns
-unfolding locatorRadices locatorValues locatorAt
+unfolding locatorValues locatorWithNumber locatorOf
 returns c =
     let w = c .before .before in
-    let u = w .before .before .before .before in
-    w .write-characters .ensures ∙ ap (λ (ds : List ℕ). charactersFrom 6 (locatorValues ds)) (u .unpack .ensures .1)
+    w .write-characters .ensures ∙ ap (λ (ds : List ℕ). charactersFrom 6 (locatorValues ds)) (its-digits (w .before .before .before .before))
 
 pub write-locator-spec : {M : Type 1} → statement M
 write-locator-spec =
     tie.close
     (tie.spec
+    locator-part-requires
     slice-aggregate-unpack
     slice-aggregate-unpack-2
     unpack-requires
     array-read-t6
-    sub-t13
+    sub-t7
     array-read-t16
     array-read-t19
     sub-t20

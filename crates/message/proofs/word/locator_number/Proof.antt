@@ -1,4 +1,4 @@
--- `message::word::number_of_locator` meets its contract: the turned values of legal characters are below the radices, and the number that
+-- `message::word::locator_number` meets its contract: 17 - a, 9 - c, b, d of legal characters are below the radices, and the number that
 -- `radix::pack` makes of them is that of the definition's formula.
 -- Assumes nothing.
 use mathlib.Core.Path.{sym, ap, _∙_}
@@ -8,13 +8,13 @@ use Prim.Native.Nat.{ℕ}
 use Rattle.radix.specs.Numeral.{numberOf}
 use Rattle.message.specs.Word.{locatorRadices}
 use Rattle.message.proofs.CharacterLaws.{all-legal}
-use Rattle.message.proofs.WordLaws.{Values, locatorDigits, locator-count, locator-values, locator-digits, locatorNumber-digits}
+use Rattle.message.proofs.WordLaws.{InSets, locatorDigits, locator-count, locator-values, locator-digits, locatorNumber-digits}
 use borrow.Author.Needs.{needs}
-use Rattle.message.proofs.word.number_of_locator.Statement.{statement}
-use Rattle.message.proofs.word.number_of_locator.Tie as tie
+use Rattle.message.proofs.word.locator_number.Statement.{statement}
+use Rattle.message.proofs.word.locator_number.Tie as tie
 
 -- The values that were read are below the sizes of their sets.
-values-in-range : (c : tie.After-read-digits) → Values (c .read-digits .last .1 .1 .0)
+values-in-range : (c : tie.After-read-digits) → InSets (c .read-digits .last .1 .1 .0)
 values-in-range c =
     let a = c .before .before .before in
     let locator = a .args .locator .now in
@@ -68,8 +68,8 @@ returns c =
     c .pack .ensures ∙ ap (λ (vs : List ℕ). numberOf locatorRadices (locatorDigits vs)) (r .read-digits .ensures)
     ∙ sym (locatorNumber-digits locator (a .pre .0) (all-legal 6 locator (omega arith)))
 
-pub number-of-locator-spec : {M : Type 1} → statement M
-number-of-locator-spec =
+pub locator-number-spec : {M : Type 1} → statement M
+locator-number-spec =
     tie.close
     (tie.spec
     slice-aggregate-read-digits

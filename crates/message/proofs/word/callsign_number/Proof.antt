@@ -1,4 +1,4 @@
--- `message::word::number_of_callsign` meets its contract: the digits of legal characters are below the radices, and `radix::pack` packs
+-- `message::word::callsign_number` meets its contract: the digits of legal characters are below the radices, and `radix::pack` packs
 -- them.
 -- Assumes nothing.
 use mathlib.Core.Path.{ap, _∙_}
@@ -8,8 +8,8 @@ use Rattle.message.specs.Word.{callsignRadices, callsignNumber}
 use Rattle.message.proofs.CharacterLaws.{all-legal}
 use Rattle.message.proofs.WordLaws.{callsign-count, callsign-digits}
 use borrow.Author.Needs.{needs}
-use Rattle.message.proofs.word.number_of_callsign.Statement.{statement}
-use Rattle.message.proofs.word.number_of_callsign.Tie as tie
+use Rattle.message.proofs.word.callsign_number.Statement.{statement}
+use Rattle.message.proofs.word.callsign_number.Tie as tie
 
 slice-aggregate-read-digits : tie.Need-slice-aggregate-read-digits
 slice-aggregate-read-digits c = search needs
@@ -36,8 +36,8 @@ unfolding callsignNumber callsignRadices
 returns c =
     c .pack .ensures ∙ ap (numberOf callsignRadices) (c .before .before .before .before .read-digits .ensures)
 
-pub number-of-callsign-spec : {M : Type 1} → statement M
-number-of-callsign-spec =
+pub callsign-number-spec : {M : Type 1} → statement M
+callsign-number-spec =
     tie.close
     (tie.spec
     slice-aggregate-read-digits
