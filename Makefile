@@ -1,6 +1,6 @@
 # What is made goes to target/ (rt), build/ (gcc) and tests/target/ (cargo).
-CFLAGS ?= -O2
-CFLAGS += -std=c11 -Wall -Wextra -Iinclude
+CC = gcc
+CFLAGS = -O2
 
 .PHONY: run test library clean
 
@@ -22,7 +22,7 @@ target/staticlib/libwsprcard.a: library
 
 build/messages: host/messages.c include/wsprcard.h target/staticlib/libwsprcard.a
 	mkdir -p build
-	$(CC) $(CFLAGS) -o $@ host/messages.c target/staticlib/libwsprcard.a
+	$(CC) -std=c11 -Wall -Wextra $(CFLAGS) -Iinclude -o $@ host/messages.c target/staticlib/libwsprcard.a
 
 clean:
 	rm -rf target build tests/target

@@ -5,17 +5,19 @@
  * table below. On success `refusal` and `place` are 0. On a refusal every other number of the result
  * is 0, and no buffer is written.
  *
- * A buffer is a pointer and its length; NULL with length 0 is an empty buffer. Buffers lent to one
- * call must not overlap, and `length` bytes must be there to be read and written.
+ * A buffer is a pointer and its length: `callsign` and `callsign_len`, `locator` and `locator_len`.
+ * That many bytes must be there. NULL with length 0 is an empty buffer. Buffers lent to one call must
+ * not overlap.
  *
  *   refusal                                                      place
  *   1  a buffer hasn't its exact length (callsign 6, locator 4)  0
  *   2  a character is outside its set                            the first such, 0 to 9
  *   3  the power isn't one of the 19                             0
- *   4  the word is 2^50 or more, or its upper 28 bits are        0
- *      262,177,560 or more
- *   5  the locator's number in the word is 32,400 or more        0
- *   6  the word's low seven bits less 64 aren't a legal power    0
+ *   4  the word is 2^50 or more, or its upper 28 bits, the       0
+ *      callsign's number, are 262,177,560 or more
+ *   5  the 15 bits after them, the locator's number, are         0
+ *      32,400 or more
+ *   6  the low seven bits less 64 aren't a legal power           0
  *
  * Callsign places 0 to 5: 0 is 0-9, A-Z or space; 1 is 0-9 or A-Z; 2 is 0-9; 3 to 5 are A-Z or
  * space. Locator places 6 to 9: 6 and 7 are A-R, 8 and 9 are 0-9. Capitals only. The powers are
