@@ -10,7 +10,8 @@ run: build/messages
 
 # The outside tests, then the gate, whose last line is 'N passed, 0 failed'.
 test: build/messages
-	./build/messages | diff host/messages.stdout -
+	./build/messages > build/messages.stdout
+	diff host/messages.stdout build/messages.stdout
 	cd tests && cargo test --release --offline
 	rt ci
 

@@ -3,9 +3,9 @@ use mathlib.Core.Path.{refl}
 use Rattle.radix.specs.Numeral.{numberOf, numberFrom}
 use Rattle.message.specs.Character.{value, callsignSets, locatorSets, setAt, digitAt, overPlaces, digitsFrom}
 use Rattle.message.specs.Word.{callsignRadices, callsignNumber, locatorNumberFrom, locatorNumber, lowerNumber}
-use Rattle.worked_examples.specs.BenchSheet.{bytes, number, benchSheet, BenchSheetAgrees}
+use Rattle.worked_examples.specs.BenchSheet.{bytes, number, benchSheet, Agrees}
 
-pub bench-sheet-agrees : BenchSheetAgrees
+pub bench-sheet-agrees : Agrees benchSheet
 unfolding numberOf numberFrom value callsignSets locatorSets setAt digitAt overPlaces digitsFrom callsignRadices callsignNumber
-    locatorNumberFrom locatorNumber lowerNumber bytes number benchSheet BenchSheetAgrees
-bench-sheet-agrees = refl
+    locatorNumberFrom locatorNumber lowerNumber bytes number benchSheet Agrees
+bench-sheet-agrees = search refl

@@ -3,7 +3,7 @@ use Prim.Native.Nat.{ℕ}
 use Prim.Native.Char.{code}
 use Prim.Native.String.{String, [] as empty, _∷_ as _∷ˢ_}
 use mathlib.Core.Path.{_≡_}
-use mathlib.Core.List.{List, [], _∷_, map}
+use mathlib.Core.List.{List, [], _∷_}
 use Rattle.message.specs.Word.{callsignNumber, locatorNumber, lowerNumber}
 
 -- The bytes of a text in ASCII.
@@ -32,6 +32,7 @@ benchSheet =
     ∷ number (locatorNumber (bytes "AA00")) 32_220
     ∷ []
 
--- The statement: in every row the definitions give what the sheet states.
-unfoldable pub BenchSheetAgrees : Type 0
-BenchSheetAgrees = map (λ (r : Row). r .given) benchSheet ≡ map (λ (r : Row). r .stated) benchSheet
+-- The statement: row by row, the definitions give what the sheet states.
+unfoldable pub Agrees : List Row → Type 0
+Agrees [] = Unit
+Agrees (r ∷ rs) = (r .given ≡ r .stated) × Agrees rs

@@ -1,17 +1,19 @@
 -- Laws of numerals: a digit's value by its byte, one turn of the reading, and the bound of what is read.
-use mathlib.Core.Path.{_≡_}
+use mathlib.Core.Path.{_≡_, refl, _∙_}
 use Prim.Native.Nat.{ℕ, suc, _+_, _-_, _*_, _^_, _≤_, _<_}
 use native.Mathlib.Nat.{add-zero, zero-add, le-trans, pow-zero, pow-suc, pow-le-pow-left, pow-le-pow-right}
 use native.Mathlib.Numerals.{add-one}
 use native.Mathlib.Omega.{arith}
-use mathlib.Core.List.{List, [], _∷_}
+use mathlib.Core.Bool.{cond}
+use mathlib.Core.List.{List, [], _∷_, map}
 use lib.Arith.{digits-lt}
 use lib.Dec.{ltb}
-use lib.ListN.{length, getD, drop, drop-of-length-le}
+use lib.ListN.{length, getD, drop, replicate, drop-of-length-le}
 use lib.Seq.{drop-cons}
 use borrow.Author.Tests.{lt-ltb, le-ltb, ltb-true}
-use Rattle.basics.proofs.Choice.{cond-held, between-true, between-below, between-above}
-use Rattle.wsjtx_vectors.specs.Number.{digitValue, numberFrom, numberIn}
+use Rattle.radix.specs.Numeral.{numberFrom, numberOf}
+use Rattle.basics.proofs.Choice.{by-test, cond-held, between-true, between-below, between-above}
+use Rattle.wsjtx_vectors.specs.Number.{digitValue, allDigits, numberIn}
 use Rattle.wsjtx_vectors.specs.declared.number.Number.{Number}
 
 -- ---- A digit's value
@@ -36,20 +38,40 @@ pub value-above : {b : ℕ} → 102 < b → digitValue b ≡ 16
 unfolding digitValue
 value-above {b} h = rw (between-above 48 57 b (omega arith) (omega arith), between-above 97 102 b (omega arith) h)
 
--- ---- Reading
+-- ---- Reading, digit by digit
+
+-- n, then for each byte: times the base, plus the digit; no number from a byte on that is no digit.
+unfoldable pub readFrom : ℕ → ℕ → List ℕ → Number
+readFrom base n [] = Number.Value n
+readFrom base n (b ∷ bs) = cond (ltb (digitValue b) base) (readFrom base (n * base + digitValue b) bs) Number.Malformed
+
+-- It reads what the definition says.
+readFrom-numeral : (base n : ℕ) (bs : List ℕ)
+    → readFrom base n bs
+    ≡ cond (allDigits base bs) (Number.Value (numberFrom n (replicate (length bs) base) (map digitValue bs))) Number.Malformed
+unfolding readFrom allDigits numberFrom
+readFrom-numeral base n [] = refl
+readFrom-numeral base n (b ∷ bs) =
+    by-test (ltb (digitValue b) base)
+    (λ e. rw e (readFrom-numeral base (n * base + digitValue b) bs))
+    (λ e. rw e)
+
+pub readFrom-all : (base : ℕ) (numeral : List ℕ) → readFrom base 0 numeral ≡ numberIn base numeral
+unfolding numberIn numberOf
+readFrom-all base numeral = readFrom-numeral base 0 numeral
 
 module _ (base n : ℕ) (numeral : List ℕ) (i : ℕ) (within : i < length numeral) where
   pub read-digit : digitValue (getD numeral i 0) < base
-      → numberFrom base (n * base + digitValue (getD numeral i 0)) (drop (i + 1) numeral) ≡ numberFrom base n (drop i numeral)
-  unfolding numberFrom
+      → readFrom base (n * base + digitValue (getD numeral i 0)) (drop (i + 1) numeral) ≡ readFrom base n (drop i numeral)
+  unfolding readFrom
   read-digit h = rw (drop-cons numeral i 0 within, lt-ltb _ _ h, add-one)
 
-  pub read-other : base ≤ digitValue (getD numeral i 0) → numberFrom base n (drop i numeral) ≡ Number.Malformed
-  unfolding numberFrom
+  pub read-other : base ≤ digitValue (getD numeral i 0) → readFrom base n (drop i numeral) ≡ Number.Malformed
+  unfolding readFrom
   read-other h = rw (drop-cons numeral i 0 within, le-ltb _ _ h)
 
-pub read-all : (base n : ℕ) (numeral : List ℕ) (i : ℕ) → length numeral ≤ i → numberFrom base n (drop i numeral) ≡ Number.Value n
-unfolding numberFrom
+pub read-all : (base n : ℕ) (numeral : List ℕ) (i : ℕ) → length numeral ≤ i → readFrom base n (drop i numeral) ≡ Number.Value n
+unfolding readFrom
 read-all base n numeral i h = rw (drop-of-length-le numeral h)
 
 -- ---- Bounds
@@ -61,18 +83,17 @@ digit-below base n d k h e = rw (add-one, pow-suc) (digits-lt h e)
 pub digits-fit : (base k : ℕ) → base ≤ 16 → k ≤ 16 → base ^ k ≤ 2 ^ 64
 digits-fit base k h e = le-trans (pow-le-pow-left h k) (pow-le-pow-right {n = 16} (omega arith) e)
 
-number-from-below : (base n k : ℕ) (ds : List ℕ) (v : ℕ) → n < base ^ k → numberFrom base n ds ≡ Number.Value v → v < base ^ (k + length ds)
-unfolding numberFrom
-number-from-below base n k [] v h e =
+readFrom-below : (base n k : ℕ) (ds : List ℕ) (v : ℕ) → n < base ^ k → readFrom base n ds ≡ Number.Value v → v < base ^ (k + length ds)
+unfolding readFrom
+readFrom-below base n k [] v h e =
     let same : n ≡ v = cc in
     rw (add-zero, ← same) h
-number-from-below base n k (d ∷ ds) v h e =
+readFrom-below base n k (d ∷ ds) v h e =
     let held = cond-held (ltb (digitValue d) base) e (λ other. let z : _≡_ {A = ℕ} 0 1 = cc in omega arith) in
     let next = digit-below base n (digitValue d) k h (ltb-true (digitValue d) base (held .0)) in
     let count : k + suc (length ds) ≡ k + 1 + length ds = omega arith in
-    rw count (number-from-below base (n * base + digitValue d) (k + 1) ds v next (held .1))
+    rw count (readFrom-below base (n * base + digitValue d) (k + 1) ds v next (held .1))
 
 -- A number is below the base to the power of its digits' count.
 pub number-below : (base : ℕ) (numeral : List ℕ) (v : ℕ) → numberIn base numeral ≡ Number.Value v → v < base ^ length numeral
-unfolding numberIn
-number-below base numeral v e = rw zero-add at (number-from-below base 0 0 numeral v (rw pow-zero (omega arith)) e)
+number-below base numeral v e = rw zero-add at (readFrom-below base 0 0 numeral v (rw pow-zero (omega arith)) (readFrom-all base numeral ∙ e))

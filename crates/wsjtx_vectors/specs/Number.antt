@@ -1,8 +1,10 @@
 -- Numerals: the number that digits write in a base of at most 16.
-use Prim.Native.Nat.{ℕ, _+_, _-_, _*_}
-use mathlib.Core.Bool.{cond}
-use mathlib.Core.List.{List, [], _∷_}
+use Prim.Native.Nat.{ℕ, _-_}
+use mathlib.Core.Bool.{Bool, true, cond, _&&_}
+use mathlib.Core.List.{List, [], _∷_, map}
 use lib.Dec.{ltb}
+use lib.ListN.{length, replicate}
+use Rattle.radix.specs.Numeral.{numberOf}
 use Rattle.basics.specs.Test.{between}
 use Rattle.wsjtx_vectors.specs.declared.number.Number.{Number}
 
@@ -12,11 +14,13 @@ digitValue byte =
     cond (between 48 57 byte) (byte - 48)
     (cond (between 97 102 byte) (byte - 87) 16)
 
--- n, then for each digit: times the base, plus the digit. A byte that is no digit of the base makes the whole no numeral.
-unfoldable pub numberFrom : ℕ → ℕ → List ℕ → Number
-numberFrom base n [] = Number.Value n
-numberFrom base n (d ∷ ds) =
-    cond (ltb (digitValue d) base) (numberFrom base (n * base + digitValue d) ds) Number.Malformed
+-- Each byte is a digit of the base.
+unfoldable pub allDigits : ℕ → List ℕ → Bool
+allDigits base [] = true
+allDigits base (b ∷ bs) = ltb (digitValue b) base && allDigits base bs
 
+-- The number that the digits' values write, every radix the base; none where a byte is no digit of it.
 unfoldable pub numberIn : ℕ → List ℕ → Number
-numberIn base numeral = numberFrom base 0 numeral
+numberIn base numeral =
+    cond (allDigits base numeral)
+    (Number.Value (numberOf (replicate (length numeral) base) (map digitValue numeral))) Number.Malformed

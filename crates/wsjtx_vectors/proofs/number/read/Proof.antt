@@ -1,26 +1,25 @@
 -- `wsjtx_vectors::number::read` meets its contract. The loop's invariant: going on from the number with the digits that are left gives
 -- what the whole numeral writes, and the number is below the base to the power of the digits passed. The measure is what is left of the numeral.
 -- Assumes nothing.
-use mathlib.Core.Path.{_≡_, refl, sym, _∙_}
+use mathlib.Core.Path.{_≡_, sym, _∙_}
 use Prim.Native.Nat.{ℕ, _+_, _*_, _-_, _^_, _≤_, _<_}
 use native.Mathlib.Nat.{pow-zero}
 use native.Mathlib.Omega.{arith}
 use lib.ListN.{length, getD, drop}
-use Rattle.wsjtx_vectors.specs.Number.{digitValue, numberFrom, numberIn}
-use Rattle.wsjtx_vectors.proofs.NumberLaws.{read-digit, read-other, read-all, digit-below, digits-fit}
+use Rattle.wsjtx_vectors.specs.Number.{digitValue, numberIn}
+use Rattle.wsjtx_vectors.proofs.NumberLaws.{readFrom, readFrom-all, read-digit, read-other, read-all, digit-below, digits-fit}
 use Rattle.wsjtx_vectors.proofs.number.read.Statement.{statement}
 use Rattle.wsjtx_vectors.proofs.number.read.Tie as tie
 
 abbrev Inv-loop : tie.InvT-loop
 Inv-loop base numeral number₀ i₀ number i =
-    (i ≤ length numeral) × (numberFrom base number (drop i numeral) ≡ numberIn base numeral) × (number < base ^ i)
+    (i ≤ length numeral) × (readFrom base number (drop i numeral) ≡ numberIn base numeral) × (number < base ^ i)
 
 abbrev μ-loop : tie.MeasureT-loop
 μ-loop base numeral number₀ i₀ number i = length numeral - i
 
 loop-holds : tie.Need-loop-holds Inv-loop μ-loop
-unfolding numberIn
-loop-holds c = (omega arith, refl, rw pow-zero (omega arith))
+loop-holds c = (omega arith, readFrom-all _ _, rw pow-zero (omega arith))
 
 shared-slice-read-digit-value : tie.Need-shared-slice-read-digit-value Inv-loop μ-loop
 shared-slice-read-digit-value c = omega arith
