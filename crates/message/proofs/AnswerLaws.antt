@@ -11,14 +11,15 @@ use borrow.Author.Tests.{not-false, le-leb, leb-false, ltb-false, lt-leb, lt-ltb
 use Rattle.basics.proofs.Choice.{both-true, both-false, cond-passed, by-test, below-or-not}
 use Rattle.refusal.specs.declared.Refusal.{Refusal}
 use Rattle.refusal.specs.Refusals.{refusal, wrongLength, badCharacter, badPower, wordTooLarge, badLocatorNumber, badPowerBits}
-use Rattle.message.specs.Character.{firstBad}
+use Rattle.message.specs.Character.{firstBad, legalAt}
 use Rattle.power.specs.Powers.{legalPower}
 use Rattle.message.specs.Word.{wordOf, callsignPart, locatorPart, powerPart}
 use Rattle.message.specs.Answer.{rightLengths, packed, wordAnswer, unpacked, packedNumbers, unpackedNumbers}
 use Rattle.message.specs.RoundTrip.{IsRefused}
 use Rattle.message.specs.declared.Packed.{Packed}
 use Rattle.message.specs.declared.Unpacked.{Unpacked}
-use Rattle.message.proofs.CharacterLaws.{AllLegal, firstBad-append, firstBad-first, all-legal, none-bad}
+use Rattle.message.proofs.CharacterLaws.{AllLegal}
+use Rattle.basics.proofs.ListLaws.{all-pass, firstFailing-first, firstFailing-append, none-fails}
 
 -- ---- The cases of packing a message
 
@@ -64,13 +65,13 @@ module _ (callsign locator : List ℕ) (power : ℕ) where
 legal-parts : (callsign locator : List ℕ) → length callsign ≡ 6 → length locator ≡ 4 → 10 ≤ firstBad 0 (callsign ++ locator)
     → AllLegal 0 callsign × AllLegal 6 locator
 legal-parts callsign locator six four good =
-    let whole : AllLegal 0 callsign = all-legal 0 callsign (below-or-not (firstBad 0 callsign) 6 (λ h. absurd (omega (arith, firstBad-first 0 callsign locator (omega arith)))) (λ h. omega arith)) in
-    (whole, all-legal 6 locator (omega (arith, firstBad-append 0 6 callsign locator (omega arith) whole)))
+    let whole : AllLegal 0 callsign = all-pass legalAt 0 callsign (below-or-not (firstBad 0 callsign) 6 (λ h. absurd (omega (arith, firstFailing-first legalAt 0 callsign locator (omega arith)))) (λ h. omega arith)) in
+    (whole, all-pass legalAt 6 locator (omega (arith, firstFailing-append legalAt 0 6 callsign locator (omega arith) whole)))
 
 pub legal-whole : (callsign locator : List ℕ) → length callsign ≡ 6 → length locator ≡ 4 → AllLegal 0 callsign → AllLegal 6 locator
     → 10 ≤ firstBad 0 (callsign ++ locator)
 legal-whole callsign locator six four h k =
-    omega (arith, firstBad-append 0 6 callsign locator (omega arith) h, none-bad 6 locator k)
+    omega (arith, firstFailing-append legalAt 0 6 callsign locator (omega arith) h, none-fails legalAt 6 locator k)
 
 pub legal-message : (callsign locator : List ℕ) (power : ℕ) → rightLengths (length callsign) (length locator) ≡ true
     → 10 ≤ firstBad 0 (callsign ++ locator) → legalPower power ≡ true → Legal callsign locator power

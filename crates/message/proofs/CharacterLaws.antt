@@ -1,19 +1,18 @@
 -- Laws of characters: a value by the byte's class and back, legal characters, and digits and characters inverse to each other.
 use mathlib.Core.Path.{_≡_, refl, sym, ap, _∙_, subst}
 use Prim.Native.Nat.{ℕ, zero, suc, _+_, _-_, _≤_, _<_}
-use native.Mathlib.Nat.{add-suc, add-zero, add-sub-of-le, add-sub-cancel-left}
+use native.Mathlib.Nat.{add-zero, add-sub-of-le, add-sub-cancel-left}
 use native.Mathlib.Omega.{arith}
-use mathlib.Core.Bool.{true, false}
+use mathlib.Core.Bool.{true}
 use mathlib.Core.List.{List, [], _∷_, _++_}
 use lib.Dec.{leb}
-use native.Mathlib.Numerals.{add-one}
-use lib.ListN.{length, getD, drop, List·getD-map, drop-of-length-le}
-use lib.Seq.{drop-cons}
+use lib.ListN.{length, getD, List·getD-map}
 use borrow.Author.Tests.{le-leb, lt-ltb, le-ltb, leb-true, ltb-true, ne-eqb}
 use Rattle.radix.specs.Numeral.{Digits}
 use Rattle.basics.proofs.Tables.{every-at}
-use Rattle.basics.proofs.Choice.{between-true, between-below, between-above, both-true, by-test, below-or-not, equal-or-not}
-use Rattle.message.specs.Character.{value, character, CharacterSet, callsignSets, locatorSets, setAt, legalAt, firstBad, digitAt, characterAt, overPlaces, digitsFrom, charactersFrom, DigitsAt}
+use Rattle.basics.proofs.Choice.{between-true, between-below, between-above, both-true, below-or-not, equal-or-not}
+use Rattle.message.specs.Character.{value, character, CharacterSet, callsignSets, locatorSets, setAt, legalAt, digitAt, characterAt, overPlaces, digitsFrom, charactersFrom, DigitsAt}
+use Rattle.basics.proofs.ListLaws.{AllPass}
 
 -- ---- A byte's class
 
@@ -112,45 +111,8 @@ unfolding legalAt
 legal-end place b e = ltb-true _ _ (both-true (leb (setAt place .lowest) (value b)) _ e .1)
 
 -- Every character from a place on is legal.
-unfoldable pub AllLegal : ℕ → List ℕ → Type 0
-AllLegal place [] = Unit
-AllLegal place (b ∷ bs) = (legalAt place b ≡ true) × AllLegal (suc place) bs
-
-firstBad-legal : (place b : ℕ) (bs : List ℕ) → legalAt place b ≡ true → firstBad place (b ∷ bs) ≡ firstBad (suc place) bs
-unfolding firstBad
-firstBad-legal place b bs e = rw e
-
-firstBad-bad : (place b : ℕ) (bs : List ℕ) → legalAt place b ≡ false → firstBad place (b ∷ bs) ≡ place
-unfolding firstBad
-firstBad-bad place b bs e = rw e
-
--- None is bad exactly where all are legal.
-pub all-legal : (place : ℕ) (bs : List ℕ) → place + length bs ≤ firstBad place bs → AllLegal place bs
-unfolding AllLegal
-all-legal place [] h = tt
-all-legal place (b ∷ bs) h =
-    by-test (legalAt place b)
-    (λ e. (e, all-legal (suc place) bs (omega (arith, firstBad-legal place b bs e))))
-    (λ e. absurd (omega (arith, firstBad-bad place b bs e)))
-
-pub none-bad : (place : ℕ) (bs : List ℕ) → AllLegal place bs → firstBad place bs ≡ place + length bs
-unfolding firstBad AllLegal
-none-bad place [] h = omega arith
-none-bad place (b ∷ bs) h = rw (h .0) (none-bad (suc place) bs (h .1) ∙ omega arith)
-
--- A message's first bad place is its callsign's, or else its locator's.
-pub firstBad-append : (place end : ℕ) (xs ys : List ℕ) → place + length xs ≡ end → AllLegal place xs → firstBad place (xs ++ ys) ≡ firstBad end ys
-unfolding firstBad AllLegal
-firstBad-append place end [] ys e h = ap (λ (p : ℕ). firstBad p ys) (omega arith)
-firstBad-append place end (x ∷ xs) ys e h = rw (h .0) (firstBad-append (suc place) end xs ys (omega arith) (h .1))
-
-pub firstBad-first : (place : ℕ) (xs ys : List ℕ) → firstBad place xs < place + length xs → firstBad place (xs ++ ys) ≡ firstBad place xs
-unfolding firstBad
-firstBad-first place [] ys h = absurd (omega arith)
-firstBad-first place (x ∷ xs) ys h =
-    by-test (legalAt place x)
-    (λ e. rw e (firstBad-first (suc place) xs ys (omega (arith, firstBad-legal place x xs e))))
-    (λ e. rw e refl)
+abbrev pub AllLegal : ℕ → List ℕ → Type 0
+AllLegal place bytes = AllPass legalAt place bytes
 
 -- ---- Digits and characters are inverse to each other
 
@@ -185,13 +147,13 @@ unfolding charactersFrom
 getD-charactersFrom place ds i h = getD-overPlaces characterAt place ds i h
 
 pub digits-of-legal : (place : ℕ) (bs : List ℕ) → AllLegal place bs → DigitsAt place (digitsFrom place bs)
-unfolding AllLegal DigitsAt digitsFrom overPlaces digitAt
+unfolding AllPass DigitsAt digitsFrom overPlaces digitAt
 digits-of-legal place [] h = tt
 digits-of-legal place (b ∷ bs) h =
     (omega (arith, legal-lowest place b (h .0), legal-end place b (h .0)), digits-of-legal (suc place) bs (h .1))
 
 pub characters-of-digits : (place : ℕ) (bs : List ℕ) → AllLegal place bs → charactersFrom place (digitsFrom place bs) ≡ bs
-unfolding AllLegal digitsFrom charactersFrom overPlaces digitAt characterAt
+unfolding AllPass digitsFrom charactersFrom overPlaces digitAt characterAt
 characters-of-digits place [] h = refl
 characters-of-digits place (b ∷ bs) h =
     rw (
@@ -205,7 +167,7 @@ value-at : (place d : ℕ) → d < setAt place .size → value (character (setAt
 value-at place d h = value-character (omega (arith, set-end place))
 
 pub legal-of-digits : (place : ℕ) (ds : List ℕ) → DigitsAt place ds → AllLegal place (charactersFrom place ds)
-unfolding AllLegal DigitsAt charactersFrom overPlaces characterAt
+unfolding AllPass DigitsAt charactersFrom overPlaces characterAt
 legal-of-digits place [] h = tt
 legal-of-digits place (d ∷ ds) h =
     let e = value-at place d (h .0) in
@@ -224,21 +186,6 @@ digit-below place [] i h k = absurd (omega arith)
 digit-below place (d ∷ ds) zero h k = subst (λ (p : ℕ). d < setAt p .size) (sym (add-zero place)) (h .0)
 digit-below place (d ∷ ds) (suc i) h k =
     subst (λ (p : ℕ). getD ds i 0 < setAt p .size) (omega arith) (digit-below (suc place) ds i (h .1) (omega arith))
-
--- ---- The search for the first bad character, from an index on
-
-module _ (start : ℕ) (bs : List ℕ) (i : ℕ) where
-  pub search-bad : i < length bs → legalAt (start + i) (getD bs i 0) ≡ false → firstBad (start + i) (drop i bs) ≡ start + i
-  search-bad h e = rw (drop-cons bs i 0 h) (firstBad-bad (start + i) (getD bs i 0) (drop (suc i) bs) e)
-
-  pub search-legal : i < length bs → legalAt (start + i) (getD bs i 0) ≡ true
-      → firstBad (start + (i + 1)) (drop (i + 1) bs) ≡ firstBad (start + i) (drop i bs)
-  search-legal h e =
-      rw (drop-cons bs i 0 h, firstBad-legal (start + i) (getD bs i 0) (drop (suc i) bs) e, add-one i, add-suc start i)
-
-  pub search-over : length bs ≤ i → firstBad (start + i) (drop i bs) ≡ start + i
-  unfolding firstBad
-  search-over h = rw (drop-of-length-le bs h)
 
 -- ---- Digits at places as digits in radices
 

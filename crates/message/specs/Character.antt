@@ -5,6 +5,7 @@ use mathlib.Core.List.{List, [], _∷_, _++_}
 use lib.Dec.{eqb, leb, ltb}
 use lib.ListN.{getD}
 use Rattle.basics.specs.Test.{between}
+use Rattle.basics.specs.Lists.{firstFailing}
 
 -- ---- Values
 
@@ -67,9 +68,8 @@ unfoldable pub legalAt : ℕ → ℕ → Bool
 legalAt place byte = leb (setAt place .lowest) (value byte) && ltb (value byte) (setAt place .lowest + setAt place .size)
 
 -- The first place, from the given one on, whose character is outside its set; past the last where there is none.
-unfoldable pub firstBad : ℕ → List ℕ → ℕ
-firstBad place [] = place
-firstBad place (b ∷ bs) = cond (legalAt place b) (firstBad (suc place) bs) place
+abbrev pub firstBad : ℕ → List ℕ → ℕ
+firstBad place bytes = firstFailing legalAt place bytes
 
 -- ---- Digits: a character's value counted from its set's lowest
 

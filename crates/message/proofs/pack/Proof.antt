@@ -10,13 +10,14 @@ use lib.ListN.{length}
 use Rattle.message.specs.Answer.{rightLengths}
 use Rattle.message.specs.Word.{wordOf}
 use Rattle.message.specs.declared.Packed.{Packed}
-use Rattle.message.proofs.CharacterLaws.{none-bad}
 use Rattle.power.proofs.Laws.{legal-power-end}
 use Rattle.message.proofs.WordLaws.{callsignNumber-below, locatorNumber-below}
 use Rattle.message.proofs.AnswerLaws.{Legal, lengths-of-right, legal-message, packed-length, packed-character, packed-power, packed-word}
 use Rattle.message.proofs.RoundTripLaws.{unpack-pack}
 use Rattle.message.proofs.pack.Statement.{statement}
 use Rattle.message.proofs.pack.Tie as tie
+use Rattle.basics.proofs.ListLaws.{none-fails}
+use Rattle.message.specs.Character.{legalAt}
 
 -- Past the first test both lengths are right.
 right : (c : tie.Else1) → rightLengths (length (c .before .before .before .before .args .callsign .now)) (length (c .before .before .before .before .args .locator .now)) ≡ true
@@ -63,12 +64,12 @@ returns-3 c =
 callsign-number-requires : tie.Need-callsign-number-requires
 callsign-number-requires c κs =
     let l = legal c in
-    (l .six, omega (arith, none-bad 0 _ (l .callsign-legal)))
+    (l .six, omega (arith, none-fails legalAt 0 _ (l .callsign-legal)))
 
 locator-number-requires : tie.Need-locator-number-requires
 locator-number-requires c κs =
     let l = legal (c .before) in
-    (l .four, omega (arith, none-bad 6 _ (l .locator-legal)))
+    (l .four, omega (arith, none-fails legalAt 6 _ (l .locator-legal)))
 
 assemble-requires : tie.Need-assemble-requires
 assemble-requires c κs =

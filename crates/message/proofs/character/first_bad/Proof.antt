@@ -7,10 +7,10 @@ use native.Mathlib.Nat.{add-zero}
 use native.Mathlib.Omega.{arith}
 use borrow.Author.Tests.{not-true, not-false}
 use lib.ListN.{length, drop}
-use Rattle.message.specs.Character.{firstBad}
-use Rattle.message.proofs.CharacterLaws.{search-bad, search-legal, search-over}
+use Rattle.message.specs.Character.{firstBad, legalAt}
 use Rattle.message.proofs.character.first_bad.Statement.{statement}
 use Rattle.message.proofs.character.first_bad.Tie as tie
+use Rattle.basics.proofs.ListLaws.{search-failed, search-passed, search-over}
 
 abbrev Inv-loop : tie.InvT-loop
 Inv-loop start bytes i₀ i = (i ≤ length bytes) × (firstBad (start + i) (drop i bytes) ≡ firstBad start bytes)
@@ -39,7 +39,7 @@ returns : tie.Need-returns Inv-loop μ-loop
 returns c =
     let l = c .before .before .before .before in
     let a = l .before .before .args in
-    sym (search-bad (a .start) (a .bytes .now) (l .loop .i) (omega arith) (sym (c .before .is-legal-at .ensures) ∙ not-true _ (c .if1 .taken))) ∙ l .loop .inv .1
+    sym (search-failed legalAt (a .start) (a .bytes .now) (l .loop .i) (omega arith) (sym (c .before .is-legal-at .ensures) ∙ not-true _ (c .if1 .taken))) ∙ l .loop .inv .1
 
 add-i : tie.Need-add-i Inv-loop μ-loop
 add-i c = omega arith
@@ -51,7 +51,7 @@ loop-again : tie.Need-loop-again Inv-loop μ-loop
 loop-again c =
     let l = c .before .before .before .before in
     let a = l .before .before .args in
-    (omega arith, search-legal (a .start) (a .bytes .now) (l .loop .i) (omega arith) (sym (c .before .is-legal-at .ensures) ∙ not-false _ (c .if1 .left)) ∙ l .loop .inv .1)
+    (omega arith, search-passed legalAt (a .start) (a .bytes .now) (l .loop .i) (omega arith) (sym (c .before .is-legal-at .ensures) ∙ not-false _ (c .if1 .left)) ∙ l .loop .inv .1)
 
 add-result-2 : tie.Need-add-result-2 Inv-loop μ-loop
 add-result-2 c = omega arith
@@ -60,7 +60,7 @@ returns-2 : tie.Need-returns-2 Inv-loop μ-loop
 returns-2 c =
     let l = c .before in
     let a = l .before .before .args in
-    sym (search-over (a .start) (a .bytes .now) (l .loop .i) (omega arith)) ∙ l .loop .inv .1
+    sym (search-over legalAt (a .start) (a .bytes .now) (l .loop .i) (omega arith)) ∙ l .loop .inv .1
 
 pub first-bad-spec : {M : Type 1} → statement M
 first-bad-spec =

@@ -5,11 +5,12 @@ use mathlib.Core.Path.{ap, _∙_}
 use native.Mathlib.Omega.{arith}
 use Rattle.radix.specs.Numeral.{numberOf}
 use Rattle.message.specs.Word.{callsignRadices, callsignNumber}
-use Rattle.message.proofs.CharacterLaws.{all-legal}
 use Rattle.message.proofs.WordLaws.{callsign-count, callsign-digits}
 use borrow.Author.Needs.{needs}
 use Rattle.message.proofs.word.callsign_number.Statement.{statement}
 use Rattle.message.proofs.word.callsign_number.Tie as tie
+use Rattle.basics.proofs.ListLaws.{all-pass}
+use Rattle.message.specs.Character.{legalAt}
 
 slice-aggregate-read-digits : tie.Need-slice-aggregate-read-digits
 slice-aggregate-read-digits c = search needs
@@ -29,7 +30,7 @@ pack-requires c κs =
     let r = c .before .before .before in
     let a = r .before .before .before in
     let callsign = a .args .callsign .now in
-    (rw (r .read-digits .ensures) (callsign-digits callsign (a .pre .0) (all-legal 0 callsign (omega arith))), omega (arith, callsign-count))
+    (rw (r .read-digits .ensures) (callsign-digits callsign (a .pre .0) (all-pass legalAt 0 callsign (omega arith))), omega (arith, callsign-count))
 
 returns : tie.Need-returns
 unfolding callsignNumber callsignRadices

@@ -7,18 +7,19 @@ use mathlib.Core.List.{List}
 use Prim.Native.Nat.{ℕ}
 use Rattle.radix.specs.Numeral.{numberOf}
 use Rattle.message.specs.Word.{locatorRadices}
-use Rattle.message.proofs.CharacterLaws.{all-legal}
 use Rattle.message.proofs.WordLaws.{InSets, locatorDigits, locator-count, locator-values, locator-digits, locatorNumber-digits}
 use borrow.Author.Needs.{needs}
 use Rattle.message.proofs.word.locator_number.Statement.{statement}
 use Rattle.message.proofs.word.locator_number.Tie as tie
+use Rattle.basics.proofs.ListLaws.{all-pass}
+use Rattle.message.specs.Character.{legalAt}
 
 -- The values that were read are below the sizes of their sets.
 values-in-range : (c : tie.After-read-digits) → InSets (c .read-digits .last .1 .1 .0)
 values-in-range c =
     let a = c .before .before .before in
     let locator = a .args .locator .now in
-    rw (c .read-digits .ensures) (locator-values locator (a .pre .0) (all-legal 6 locator (omega arith)))
+    rw (c .read-digits .ensures) (locator-values locator (a .pre .0) (all-pass legalAt 6 locator (omega arith)))
 
 slice-aggregate-read-digits : tie.Need-slice-aggregate-read-digits
 slice-aggregate-read-digits c = search needs
@@ -66,7 +67,7 @@ returns c =
     let a = r .before .before .before in
     let locator = a .args .locator .now in
     c .pack .ensures ∙ ap (λ (vs : List ℕ). numberOf locatorRadices (locatorDigits vs)) (r .read-digits .ensures)
-    ∙ sym (locatorNumber-digits locator (a .pre .0) (all-legal 6 locator (omega arith)))
+    ∙ sym (locatorNumber-digits locator (a .pre .0) (all-pass legalAt 6 locator (omega arith)))
 
 pub locator-number-spec : {M : Type 1} → statement M
 locator-number-spec =

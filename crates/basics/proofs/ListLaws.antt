@@ -1,0 +1,109 @@
+-- Laws of lists by their places: a list by a rule, the first place where a test fails, and whether two lists are the same.
+use mathlib.Core.Path.{_≡_, refl, ap, _∙_}
+use Prim.Native.Nat.{ℕ, zero, suc, _+_, _≤_, _<_}
+use native.Mathlib.Nat.{add-suc}
+use native.Mathlib.Numerals.{add-one}
+use native.Mathlib.Omega.{arith}
+use mathlib.Core.Bool.{Bool, true, false, false≢true}
+use mathlib.Core.List.{List, [], _∷_, _++_}
+use lib.Dec.{eqb}
+use lib.ListN.{length, getD, drop, drop-of-length-le}
+use lib.Seq.{drop-cons, ext-getD}
+use borrow.Author.Tests.{eqb-true, eq-eqb}
+use Rattle.basics.specs.Lists.{tabulate, firstFailing, sameList}
+use Rattle.basics.proofs.Choice.{both-true, by-test}
+
+-- ---- A list by a rule
+
+pub length-tabulate : (n : ℕ) (f : ℕ → ℕ) → length (tabulate n f) ≡ n
+unfolding tabulate
+length-tabulate zero f = refl
+length-tabulate (suc n) f = ap suc (length-tabulate n (λ i. f (suc i)))
+
+pub getD-tabulate : (n : ℕ) (f : ℕ → ℕ) (i : ℕ) → i < n → getD (tabulate n f) i 0 ≡ f i
+unfolding tabulate
+getD-tabulate zero f i h = absurd (omega arith)
+getD-tabulate (suc n) f zero h = refl
+getD-tabulate (suc n) f (suc i) h = getD-tabulate n (λ i. f (suc i)) i (omega arith)
+
+-- A list of n elements that follow the rule is the rule's.
+pub by-rule : (n : ℕ) (f : ℕ → ℕ) (xs : List ℕ) → length xs ≡ n → ((i : ℕ) → i < n → getD xs i 0 ≡ f i) → xs ≡ tabulate n f
+by-rule n f xs e rule =
+    ext-getD 0 xs (tabulate n f) (rw (e, length-tabulate n f))
+    (λ i h. let within : i < n = omega arith in rw (rule i within, getD-tabulate n f i within))
+
+-- ---- The first place where a test fails
+
+module _ (test : ℕ → ℕ → Bool) where
+  -- Every element from a place on passes.
+  unfoldable pub AllPass : ℕ → List ℕ → Type 0
+  AllPass place [] = Unit
+  AllPass place (x ∷ xs) = (test place x ≡ true) × AllPass (suc place) xs
+
+  first-passed : (place x : ℕ) (xs : List ℕ) → test place x ≡ true → firstFailing test place (x ∷ xs) ≡ firstFailing test (suc place) xs
+  unfolding firstFailing
+  first-passed place x xs e = rw e
+
+  first-failed : (place x : ℕ) (xs : List ℕ) → test place x ≡ false → firstFailing test place (x ∷ xs) ≡ place
+  unfolding firstFailing
+  first-failed place x xs e = rw e
+
+  -- None fails exactly where all pass.
+  pub all-pass : (place : ℕ) (xs : List ℕ) → place + length xs ≤ firstFailing test place xs → AllPass place xs
+  unfolding AllPass
+  all-pass place [] h = tt
+  all-pass place (x ∷ xs) h =
+      by-test (test place x)
+      (λ e. (e, all-pass (suc place) xs (omega (arith, first-passed place x xs e))))
+      (λ e. absurd (omega (arith, first-failed place x xs e)))
+
+  pub none-fails : (place : ℕ) (xs : List ℕ) → AllPass place xs → firstFailing test place xs ≡ place + length xs
+  unfolding firstFailing AllPass
+  none-fails place [] h = omega arith
+  none-fails place (x ∷ xs) h = rw (h .0) (none-fails (suc place) xs (h .1) ∙ omega arith)
+
+  -- Two lists one after the other: the first failing place is that of the first list, or else that of the second.
+  pub firstFailing-append : (place end : ℕ) (xs ys : List ℕ) → place + length xs ≡ end → AllPass place xs
+      → firstFailing test place (xs ++ ys) ≡ firstFailing test end ys
+  unfolding firstFailing AllPass
+  firstFailing-append place end [] ys e h = ap (λ (p : ℕ). firstFailing test p ys) (omega arith)
+  firstFailing-append place end (x ∷ xs) ys e h = rw (h .0) (firstFailing-append (suc place) end xs ys (omega arith) (h .1))
+
+  pub firstFailing-first : (place : ℕ) (xs ys : List ℕ) → firstFailing test place xs < place + length xs
+      → firstFailing test place (xs ++ ys) ≡ firstFailing test place xs
+  unfolding firstFailing
+  firstFailing-first place [] ys h = absurd (omega arith)
+  firstFailing-first place (x ∷ xs) ys h =
+      by-test (test place x)
+      (λ e. rw e (firstFailing-first (suc place) xs ys (omega (arith, first-passed place x xs e))))
+      (λ e. rw e refl)
+
+  -- A loop that looks for it, from an index on.
+  module _ (start : ℕ) (xs : List ℕ) (i : ℕ) where
+    pub search-failed : i < length xs → test (start + i) (getD xs i 0) ≡ false → firstFailing test (start + i) (drop i xs) ≡ start + i
+    search-failed h e = rw (drop-cons xs i 0 h) (first-failed (start + i) (getD xs i 0) (drop (suc i) xs) e)
+
+    pub search-passed : i < length xs → test (start + i) (getD xs i 0) ≡ true
+        → firstFailing test (start + (i + 1)) (drop (i + 1) xs) ≡ firstFailing test (start + i) (drop i xs)
+    search-passed h e =
+        rw (drop-cons xs i 0 h, first-passed (start + i) (getD xs i 0) (drop (suc i) xs) e, add-one i, add-suc start i)
+
+    pub search-over : length xs ≤ i → firstFailing test (start + i) (drop i xs) ≡ start + i
+    unfolding firstFailing
+    search-over h = rw (drop-of-length-le xs h)
+
+-- ---- Whether two lists are the same
+
+pub sameList-equal : (xs ys : List ℕ) → sameList xs ys ≡ true → xs ≡ ys
+unfolding sameList
+sameList-equal [] [] e = refl
+sameList-equal [] (y ∷ ys) e = absurd (false≢true e)
+sameList-equal (x ∷ xs) [] e = absurd (false≢true e)
+sameList-equal (x ∷ xs) (y ∷ ys) e =
+    let tests = both-true (eqb x y) (sameList xs ys) e in
+    rw (eqb-true x y (tests .0), sameList-equal xs ys (tests .1))
+
+pub sameList-itself : (xs : List ℕ) → sameList xs xs ≡ true
+unfolding sameList
+sameList-itself [] = refl
+sameList-itself (x ∷ xs) = rw (eq-eqb x x refl, sameList-itself xs)
