@@ -28,3 +28,15 @@ badLocatorNumber = 5
 -- "low seven bits less 64 aren't a legal power"
 abbrev pub badPowerBits : ℕ
 badPowerBits = 6
+
+-- "a symbol is above 3"; its place is the first such
+abbrev pub symbolTooLarge : ℕ
+symbolTooLarge = 7
+
+-- "strict: a sync bit is wrong"; its place is the first such
+abbrev pub wrongSync : ℕ
+wrongSync = 8
+
+-- "strict: no 50-bit word has this frame"
+abbrev pub noWord : ℕ
+noWord = 9

@@ -18,3 +18,9 @@ pub const WORD_TOO_LARGE: u32 = 4;
 pub const BAD_LOCATOR_NUMBER: u32 = 5;
 // In word reading the low seven bits less 64 aren't a legal power.
 pub const BAD_POWER_BITS: u32 = 6;
+// A symbol is above 3. Place: the first such.
+pub const SYMBOL_TOO_LARGE: u32 = 7;
+// In strict reading a sync bit is wrong. Place: the first such.
+pub const WRONG_SYNC: u32 = 8;
+// In strict reading no 50-bit word has the frame.
+pub const NO_WORD: u32 = 9;

@@ -1,10 +1,20 @@
 // The card's functions for a host in C, over include/wsprcard.h: each is a thin layer over that of
 // its crate, with the answer's result numbers in a struct.
 ghost use mathlib.Core.Path.{_≡_};
-ghost use Rattle.message.specs.Answer.{packed, unpacked, callsignAfter, locatorAfter};
-ghost use Rattle.wsprcard.specs.Results.{wordResult, messageResult, WordReadsBack, MessagePacksBack, WordRefusedExactly};
+ghost use Rattle.message.specs.Answer.{packed, unpacked, callsignAfter, locatorAfter, packedNumbers, unpackedNumbers};
+ghost use Rattle.frame.specs.Answer.{wordWritten, messageWritten, frameAfterWord, frameAfterMessage, wordRead, messageRead, callsignRead, locatorRead, writtenRefusal, readNumbers};
+ghost use Rattle.wsprcard.specs.Results.{writtenResult, wordResult, messageResult, WordReadsBack, MessagePacksBack, WordRefusedExactly, FrameReadsAsWord, FrameReadsAsMessage, WordWritesFrame, FrameRefusedExactly, MessageWritesFrame, MessageFrameRefusedExactly};
+use frame::Read;
+use frame::Written;
 use message::Packed;
 use message::Unpacked;
+
+// Refusal number (0: success) and place.
+#[repr(C)]
+pub struct WsprWritten {
+    pub refusal: u32,
+    pub place: u32,
+}
 
 // Refusal number (0: success), place, and the word.
 #[repr(C)]
@@ -22,10 +32,44 @@ pub struct WsprMessage {
     pub power: u32,
 }
 
+// The result of writing a frame.
+fn written_result(answer: Written) -> WsprWritten
+    ensures { λ r. ⌜ r ≡ writtenResult answer ⌝ }
+{
+    match answer {
+        Written::Done => WsprWritten {
+            refusal: 0,
+            place: 0,
+        },
+        Written::Refused(refusal) => WsprWritten {
+            refusal: refusal.number,
+            place: refusal.place,
+        },
+    }
+}
+
+// The result of reading a message.
+fn message_result(answer: Unpacked) -> WsprMessage
+    ensures { λ r. ⌜ r ≡ messageResult (unpackedNumbers answer) ⌝ }
+{
+    match answer {
+        Unpacked::Power(power) => WsprMessage {
+            refusal: 0,
+            place: 0,
+            power,
+        },
+        Unpacked::Refused(refusal) => WsprMessage {
+            refusal: refusal.number,
+            place: refusal.place,
+            power: 0,
+        },
+    }
+}
+
 // The word of a message.
 #[no_mangle]
 pub extern "C" fn wspr_pack(callsign: &[u8], locator: &[u8], power: u32) -> WsprWord
-    ensures answer { λ r. ⌜ r ≡ wordResult (packed (now (callsign .entry)) (now (locator .entry)) power) ⌝ }
+    ensures answer { λ r. ⌜ r ≡ wordResult (packedNumbers (packed (now (callsign .entry)) (now (locator .entry)) power)) ⌝ }
     ensures reads_back { λ r. ⌜ WordReadsBack r (now (callsign .entry)) (now (locator .entry)) power ⌝ }
 {
     match message::pack(callsign, locator, power) {
@@ -45,22 +89,64 @@ pub extern "C" fn wspr_pack(callsign: &[u8], locator: &[u8], power: u32) -> Wspr
 // The message of a word: its callsign and locator are written, its power is returned.
 #[no_mangle]
 pub extern "C" fn wspr_unpack(word: u64, callsign: &mut [u8], locator: &mut [u8]) -> WsprMessage
-    ensures answer { λ r. ⌜ r ≡ messageResult (unpacked (now (callsign .entry)) (now (locator .entry)) word) ⌝ }
+    ensures answer { λ r. ⌜ r ≡ messageResult (unpackedNumbers (unpacked (now (callsign .entry)) (now (locator .entry)) word)) ⌝ }
     ensures callsign_after { λ _. ⌜ now (callsign .exit) ≡ callsignAfter (now (callsign .entry)) (now (locator .entry)) word ⌝ }
     ensures locator_after { λ _. ⌜ now (locator .exit) ≡ locatorAfter (now (callsign .entry)) (now (locator .entry)) word ⌝ }
     ensures packs_back { λ r. ⌜ MessagePacksBack r word (now (callsign .exit)) (now (locator .exit)) ⌝ }
     ensures refuses_exactly { λ r. ⌜ WordRefusedExactly r word (now (callsign .entry)) (now (locator .entry)) ⌝ }
 {
-    match message::unpack(word, callsign, locator) {
-        Unpacked::Power(power) => WsprMessage {
+    message_result(message::unpack(word, callsign, locator))
+}
+
+// Writes the frame of a word.
+#[no_mangle]
+pub extern "C" fn wspr_write_word(word: u64, frame: &mut [u8]) -> WsprWritten
+    ensures answer { λ r. ⌜ r ≡ writtenResult (wordWritten (now (frame .entry)) word) ⌝ }
+    ensures frame_after { λ _. ⌜ now (frame .exit) ≡ frameAfterWord (now (frame .entry)) word ⌝ }
+    ensures reads_back { λ r. ⌜ FrameReadsAsWord r word (now (frame .exit)) ⌝ }
+{
+    written_result(frame::write_word(word, frame))
+}
+
+// Writes the frame of a message.
+#[no_mangle]
+pub extern "C" fn wspr_write_message(callsign: &[u8], locator: &[u8], power: u32, frame: &mut [u8]) -> WsprWritten
+    ensures answer { λ r. ⌜ r ≡ writtenResult (messageWritten (now (callsign .entry)) (now (locator .entry)) power (now (frame .entry))) ⌝ }
+    ensures frame_after { λ _. ⌜ now (frame .exit) ≡ frameAfterMessage (now (callsign .entry)) (now (locator .entry)) power (now (frame .entry)) ⌝ }
+    ensures reads_back { λ r. ⌜ FrameReadsAsMessage r (now (callsign .entry)) (now (locator .entry)) power (now (frame .exit)) ⌝ }
+{
+    written_result(frame::write_message(callsign, locator, power, frame))
+}
+
+// The word of a frame.
+#[no_mangle]
+pub extern "C" fn wspr_read_word(frame: &[u8]) -> WsprWord
+    ensures answer { λ r. ⌜ r ≡ wordResult (readNumbers (wordRead (now (frame .entry)))) ⌝ }
+    ensures writes_back { λ r. ⌜ WordWritesFrame r (now (frame .entry)) ⌝ }
+    ensures refuses_exactly { λ r. ⌜ FrameRefusedExactly r (now (frame .entry)) ⌝ }
+{
+    match frame::read_word(frame) {
+        Read::Word(word) => WsprWord {
             refusal: 0,
             place: 0,
-            power,
+            word,
         },
-        Unpacked::Refused(refusal) => WsprMessage {
+        Read::Refused(refusal) => WsprWord {
             refusal: refusal.number,
             place: refusal.place,
-            power: 0,
+            word: 0,
         },
     }
+}
+
+// The message of a frame: its callsign and locator are written, its power is returned.
+#[no_mangle]
+pub extern "C" fn wspr_read_message(frame: &[u8], callsign: &mut [u8], locator: &mut [u8]) -> WsprMessage
+    ensures answer { λ r. ⌜ r ≡ messageResult (unpackedNumbers (messageRead (now (frame .entry)) (now (callsign .entry)) (now (locator .entry)))) ⌝ }
+    ensures callsign_after { λ _. ⌜ now (callsign .exit) ≡ callsignRead (now (frame .entry)) (now (callsign .entry)) (now (locator .entry)) ⌝ }
+    ensures locator_after { λ _. ⌜ now (locator .exit) ≡ locatorRead (now (frame .entry)) (now (callsign .entry)) (now (locator .entry)) ⌝ }
+    ensures writes_back { λ r. ⌜ MessageWritesFrame r (now (frame .entry)) (now (callsign .exit)) (now (locator .exit)) ⌝ }
+    ensures refuses_exactly { λ r. ⌜ MessageFrameRefusedExactly r (now (frame .entry)) (now (callsign .entry)) (now (locator .entry)) ⌝ }
+{
+    message_result(frame::read_message(frame, callsign, locator))
 }

@@ -1,0 +1,91 @@
+-- What writing and strictly reading a frame promise of each other (demand 2): the round trips, and that each reader refuses exactly the
+-- frames that its matching writer never makes.
+use Prim.Native.Nat.{ℕ, _≤_, _<_, _%_, _^_}
+use mathlib.Core.Path.{_≡_}
+use mathlib.Core.Logic.{_↔_}
+use mathlib.Core.List.{List}
+use lib.ListN.{length, getD}
+use Rattle.refusal.specs.Refusals.{refusal, noWord}
+use Rattle.message.specs.RoundTrip.{IsRefused}
+use Rattle.message.specs.declared.Unpacked.{Unpacked}
+use Rattle.frame.specs.Symbols.{syncAt, frameOf}
+use Rattle.frame.specs.Answer.{wordWritten, messageWritten, frameAfterWord, frameAfterMessage, wordRead, messageRead, callsignRead, locatorRead}
+use Rattle.frame.specs.declared.Written.{Written}
+use Rattle.frame.specs.declared.Read.{Read}
+
+-- ---- A word and its frame
+
+-- The frame reads as this word, and is no other's.
+pub record ReadsAsWord (frame : List ℕ) (word : ℕ) : Type 0 where
+  pub its-word : wordRead frame ≡ Read.Word word
+  pub no-other : (other : ℕ) → other < 2 ^ 50 → frameOf other ≡ frame → other ≡ word
+
+-- What was written reads back.
+abbrev pub WordReadsBack : Written → ℕ → List ℕ → Type 0
+WordReadsBack Written.Done word frame = ReadsAsWord frame word
+WordReadsBack (Written.Refused f) word frame = Unit
+
+-- What was read writes back: over any lent frame of 162 bytes.
+abbrev pub WordWritesBack : Read → List ℕ → Type 0
+WordWritesBack (Read.Word w) frame = (w < 2 ^ 50) × (frameOf w ≡ frame)
+WordWritesBack (Read.Refused f) frame = Unit
+
+-- Writing from a word never makes this frame.
+abbrev pub NeverFromWord : List ℕ → Type 0
+NeverFromWord frame = (before : List ℕ) (word : ℕ) → wordWritten before word ≡ Written.Done → frameAfterWord before word ≡ frame → ⊥
+
+-- The answer is a refusal.
+abbrev pub ReadRefused : Read → Type 0
+ReadRefused (Read.Word w) = ⊥
+ReadRefused (Read.Refused f) = Unit
+
+-- The answer is a refusal exactly where writing from a word never makes the frame.
+abbrev pub WordRefusedExactly : Read → List ℕ → Type 0
+WordRefusedExactly answer frame = ReadRefused answer ↔ NeverFromWord frame
+
+-- The frame has 162 symbols of 0 to 3 with the right sync bits.
+pub record RightForm (frame : List ℕ) : Type 0 where
+  pub right-length : length frame ≡ 162
+  pub symbols-to-3 : (place : ℕ) → place < 162 → getD frame place 0 ≤ 3
+  pub right-sync : (place : ℕ) → place < 162 → getD frame place 0 % 2 ≡ syncAt place
+
+-- Of those, refusal 9 is given exactly where no 50-bit word has the frame.
+abbrev pub NoWordRefused : Read → List ℕ → Type 0
+NoWordRefused answer frame =
+    RightForm frame → (answer ≡ Read.Refused (refusal noWord 0)) ↔ ((word : ℕ) → word < 2 ^ 50 → frameOf word ≡ frame → ⊥)
+
+-- ---- A message and its frame
+
+-- The frame reads as this message, into any lent callsign of six bytes and locator of four.
+abbrev pub ReadsAsMessage : List ℕ → List ℕ → List ℕ → ℕ → Type 0
+ReadsAsMessage frame callsign locator power =
+    (c l : List ℕ) → length c ≡ 6 → length l ≡ 4
+    → (messageRead frame c l ≡ Unpacked.Power power) × ((callsignRead frame c l ≡ callsign) × (locatorRead frame c l ≡ locator))
+
+-- What was written reads back.
+abbrev pub MessageReadsBack : Written → List ℕ → List ℕ → ℕ → List ℕ → Type 0
+MessageReadsBack Written.Done callsign locator power frame = ReadsAsMessage frame callsign locator power
+MessageReadsBack (Written.Refused f) callsign locator power frame = Unit
+
+-- Writing from a message makes this frame, over any lent frame of 162 bytes.
+abbrev pub WritesAs : List ℕ → List ℕ → ℕ → List ℕ → Type 0
+WritesAs callsign locator power frame =
+    (before : List ℕ) → length before ≡ 162
+    → (messageWritten callsign locator power before ≡ Written.Done) × (frameAfterMessage callsign locator power before ≡ frame)
+
+-- What was read writes back.
+abbrev pub MessageWritesBack : Unpacked → List ℕ → List ℕ → List ℕ → Type 0
+MessageWritesBack (Unpacked.Power p) frame callsign locator = WritesAs callsign locator p frame
+MessageWritesBack (Unpacked.Refused f) frame callsign locator = Unit
+
+-- Writing from a message never makes this frame.
+abbrev pub NeverFromMessage : List ℕ → Type 0
+NeverFromMessage frame =
+    (callsign locator : List ℕ) (power : ℕ) (before : List ℕ) → messageWritten callsign locator power before ≡ Written.Done
+    → frameAfterMessage callsign locator power before ≡ frame → ⊥
+
+-- With a callsign of six bytes and a locator of four lent, the answer is a refusal exactly where writing from a message never makes the
+-- frame.
+abbrev pub MessageRefusedExactly : Unpacked → List ℕ → List ℕ → List ℕ → Type 0
+MessageRefusedExactly answer frame callsign locator =
+    length callsign ≡ 6 → length locator ≡ 4 → IsRefused answer ↔ NeverFromMessage frame

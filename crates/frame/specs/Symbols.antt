@@ -1,0 +1,32 @@
+-- The symbols of a frame (01, 'Frame'): sync bits, data bits, and the frame of a word.
+use Prim.Native.Nat.{ℕ, _+_, _*_, _/_}
+use mathlib.Core.List.{List, [], _∷_}
+use lib.ListN.{getD}
+use Rattle.basics.specs.Lists.{tabulate}
+use Rattle.convolution.specs.Code.{codedBits}
+use Rattle.interleaver.specs.Places.{placeOf, orderOf}
+
+-- "The sync vector is the table in 002; its printed "0.0" near the end is two zeros, and it has 162 entries."
+unfoldable pub syncVector : List ℕ
+syncVector =
+    1 ∷ 1 ∷ 0 ∷ 0 ∷ 0 ∷ 0 ∷ 0 ∷ 0 ∷ 1 ∷ 0 ∷ 0 ∷ 0 ∷ 1 ∷ 1 ∷ 1 ∷ 0 ∷ 0 ∷ 0 ∷ 1 ∷ 0 ∷ 0 ∷ 1 ∷ 0 ∷ 1 ∷ 1 ∷ 1 ∷ 1 ∷ 0 ∷ 0 ∷ 0 ∷ 0 ∷ 0 ∷ 0 ∷ 0 ∷ 1 ∷ 0 ∷ 0 ∷ 1 ∷ 0 ∷ 1 ∷ 0 ∷ 0 ∷
+    0 ∷ 0 ∷ 0 ∷ 0 ∷ 1 ∷ 0 ∷ 1 ∷ 1 ∷ 0 ∷ 0 ∷ 1 ∷ 1 ∷ 0 ∷ 1 ∷ 0 ∷ 0 ∷ 0 ∷ 1 ∷ 1 ∷ 0 ∷ 1 ∷ 0 ∷ 0 ∷ 0 ∷ 0 ∷ 1 ∷ 1 ∷ 0 ∷ 1 ∷ 0 ∷ 1 ∷ 0 ∷ 1 ∷ 0 ∷ 1 ∷ 0 ∷ 0 ∷ 1 ∷ 0 ∷ 0 ∷ 1 ∷ 0 ∷
+    1 ∷ 1 ∷ 0 ∷ 0 ∷ 0 ∷ 1 ∷ 1 ∷ 0 ∷ 1 ∷ 0 ∷ 1 ∷ 0 ∷ 0 ∷ 0 ∷ 1 ∷ 0 ∷ 0 ∷ 0 ∷ 0 ∷ 0 ∷ 1 ∷ 0 ∷ 0 ∷ 1 ∷ 0 ∷ 0 ∷ 1 ∷ 1 ∷ 1 ∷ 0 ∷ 1 ∷ 1 ∷ 0 ∷ 0 ∷ 1 ∷ 1 ∷ 0 ∷ 1 ∷ 0 ∷ 0 ∷ 0 ∷ 1 ∷
+    1 ∷ 1 ∷ 0 ∷ 0 ∷ 0 ∷ 0 ∷ 0 ∷ 1 ∷ 0 ∷ 1 ∷ 0 ∷ 0 ∷ 1 ∷ 1 ∷ 0 ∷ 0 ∷ 0 ∷ 0 ∷ 0 ∷ 0 ∷ 0 ∷ 1 ∷ 1 ∷ 0 ∷ 1 ∷ 0 ∷ 1 ∷ 1 ∷ 0 ∷ 0 ∷ 0 ∷ 1 ∷ 1 ∷ 0 ∷ 0 ∷ 0 ∷
+    []
+
+-- The sync bit of a place.
+unfoldable pub syncAt : ℕ → ℕ
+syncAt place = getD syncVector place 0
+
+-- The data bit of a place is the coded bit that goes there; "Symbol n is sync n plus twice data n."
+unfoldable pub symbolAt : List ℕ → ℕ → ℕ
+symbolAt coded place = syncAt place + 2 * getD coded (orderOf place) 0
+
+-- The frame of a word.
+unfoldable pub frameOf : ℕ → List ℕ
+frameOf word = tabulate 162 (symbolAt (codedBits word))
+
+-- Back from a frame: the data bits, "symbol divided by 2, rounded down, put back in S order".
+unfoldable pub receivedBits : List ℕ → List ℕ
+receivedBits frame = tabulate 162 (λ index. getD frame (placeOf index) 0 / 2)

@@ -1,0 +1,127 @@
+// A frame of 162 symbols: written from a word or a message, and strictly read to either.
+mod symbols;
+
+ghost use mathlib.Core.Path.{_≡_};
+ghost use lib.ListN.{length};
+ghost use Rattle.frame.specs.Answer.{wordWritten, messageWritten, frameAfterWord, frameAfterMessage, wordRead, refusalOf, messageRead, callsignRead, locatorRead};
+ghost use Rattle.frame.specs.RoundTrip.{WordReadsBack, WordWritesBack, WordRefusedExactly, NoWordRefused, MessageReadsBack, MessageWritesBack, MessageRefusedExactly};
+use message::Packed;
+use message::Unpacked;
+use refusal::Refusal;
+use refusal::SYMBOL_TOO_LARGE;
+use refusal::WORD_TOO_LARGE;
+use refusal::WRONG_LENGTH;
+use refusal::WRONG_SYNC;
+
+// The answer of writing, beside the frame that it writes.
+pub enum Written {
+    Done,
+    Refused(Refusal),
+}
+
+// The answer of reading to the word.
+pub enum Read {
+    Word(u64),
+    Refused(Refusal),
+}
+
+// Writes the frame of a word.
+pub fn write_word(word: u64, frame: &mut [u8]) -> Written
+    ensures answer { λ r. ⌜ r ≡ wordWritten (now (frame .entry)) word ⌝ }
+    ensures frame_after { λ _. ⌜ now (frame .exit) ≡ frameAfterWord (now (frame .entry)) word ⌝ }
+    ensures reads_back { λ r. ⌜ WordReadsBack r word (now (frame .exit)) ⌝ }
+{
+    if frame.len() != 162 {
+        return Written::Refused(Refusal {
+            number: WRONG_LENGTH,
+            place: 0,
+        });
+    }
+    if 1 << 50 <= word {
+        return Written::Refused(Refusal {
+            number: WORD_TOO_LARGE,
+            place: 0,
+        });
+    }
+    symbols::write_symbols(word, frame);
+    Written::Done
+}
+
+// Writes the frame of a message.
+pub fn write_message(callsign: &[u8], locator: &[u8], power: u32, frame: &mut [u8]) -> Written
+    ensures answer { λ r. ⌜ r ≡ messageWritten (now (callsign .entry)) (now (locator .entry)) power (now (frame .entry)) ⌝ }
+    ensures frame_after { λ _. ⌜ now (frame .exit) ≡ frameAfterMessage (now (callsign .entry)) (now (locator .entry)) power (now (frame .entry)) ⌝ }
+    ensures reads_back { λ r. ⌜ MessageReadsBack r (now (callsign .entry)) (now (locator .entry)) power (now (frame .exit)) ⌝ }
+{
+    if frame.len() != 162 {
+        return Written::Refused(Refusal {
+            number: WRONG_LENGTH,
+            place: 0,
+        });
+    }
+    match message::pack(callsign, locator, power) {
+        Packed::Word(word) => {
+            symbols::write_symbols(word, frame);
+            Written::Done
+        }
+        Packed::Refused(refusal) => Written::Refused(refusal),
+    }
+}
+
+// The word of a frame.
+pub fn read_word(frame: &[u8]) -> Read
+    ensures answer { λ r. ⌜ r ≡ wordRead (now (frame .entry)) ⌝ }
+    ensures writes_back { λ r. ⌜ WordWritesBack r (now (frame .entry)) ⌝ }
+    ensures refuses_exactly { λ r. ⌜ WordRefusedExactly r (now (frame .entry)) ⌝ }
+    ensures no_word { λ r. ⌜ NoWordRefused r (now (frame .entry)) ⌝ }
+{
+    if frame.len() != 162 {
+        return Read::Refused(Refusal {
+            number: WRONG_LENGTH,
+            place: 0,
+        });
+    }
+    let large = symbols::first_large(frame);
+    if large < 162 {
+        return Read::Refused(Refusal {
+            number: SYMBOL_TOO_LARGE,
+            place: large as u32,
+        });
+    }
+    let wrong = symbols::first_wrong_sync(frame);
+    if wrong < 162 {
+        return Read::Refused(Refusal {
+            number: WRONG_SYNC,
+            place: wrong as u32,
+        });
+    }
+    symbols::word_of_data(frame)
+}
+
+// The refusal of an answer; number and place are 0 where it is none.
+fn refusal_of(answer: Read) -> Refusal
+    ensures { λ r. ⌜ r ≡ refusalOf answer ⌝ }
+{
+    match answer {
+        Read::Word(_) => Refusal {
+            number: 0,
+            place: 0,
+        },
+        Read::Refused(refusal) => refusal,
+    }
+}
+
+// The message of a frame: its callsign and locator are written, its power is the answer.
+pub fn read_message(frame: &[u8], callsign: &mut [u8], locator: &mut [u8]) -> Unpacked
+    ensures answer { λ r. ⌜ r ≡ messageRead (now (frame .entry)) (now (callsign .entry)) (now (locator .entry)) ⌝ }
+    ensures callsign_after { λ _. ⌜ now (callsign .exit) ≡ callsignRead (now (frame .entry)) (now (callsign .entry)) (now (locator .entry)) ⌝ }
+    ensures locator_after { λ _. ⌜ now (locator .exit) ≡ locatorRead (now (frame .entry)) (now (callsign .entry)) (now (locator .entry)) ⌝ }
+    ensures writes_back { λ r. ⌜ MessageWritesBack r (now (frame .entry)) (now (callsign .exit)) (now (locator .exit)) ⌝ }
+    ensures refuses_exactly { λ r. ⌜ MessageRefusedExactly r (now (frame .entry)) (now (callsign .entry)) (now (locator .entry)) ⌝ }
+{
+    let answer = read_word(frame);
+    let Read::Word(word) = answer else {
+        return Unpacked::Refused(refusal_of(answer));
+    };
+    message::unpack(word, callsign, locator)
+}

@@ -1,0 +1,267 @@
+// The symbols of a frame: sync bit and data bit, and the coded bits behind them.
+ghost use mathlib.Core.Path.{_≡_};
+ghost use Prim.Native.Nat.{_≤_, _<_};
+ghost use lib.ListN.{length, replicate};
+ghost use Rattle.frame.specs.Symbols.{syncAt, frameOf, receivedBits};
+ghost use Rattle.frame.specs.Answer.{firstLarge, firstWrongSync, wordOfData};
+use super::Read;
+use refusal::NO_WORD;
+use refusal::Refusal;
+
+// The synchronization vector.
+const SYNC: [u8; 162] = [
+    1,
+    1,
+    0,
+    0,
+    0,
+    0,
+    0,
+    0,
+    1,
+    0,
+    0,
+    0,
+    1,
+    1,
+    1,
+    0,
+    0,
+    0,
+    1,
+    0,
+    0,
+    1,
+    0,
+    1,
+    1,
+    1,
+    1,
+    0,
+    0,
+    0,
+    0,
+    0,
+    0,
+    0,
+    1,
+    0,
+    0,
+    1,
+    0,
+    1,
+    0,
+    0,
+    0,
+    0,
+    0,
+    0,
+    1,
+    0,
+    1,
+    1,
+    0,
+    0,
+    1,
+    1,
+    0,
+    1,
+    0,
+    0,
+    0,
+    1,
+    1,
+    0,
+    1,
+    0,
+    0,
+    0,
+    0,
+    1,
+    1,
+    0,
+    1,
+    0,
+    1,
+    0,
+    1,
+    0,
+    1,
+    0,
+    0,
+    1,
+    0,
+    0,
+    1,
+    0,
+    1,
+    1,
+    0,
+    0,
+    0,
+    1,
+    1,
+    0,
+    1,
+    0,
+    1,
+    0,
+    0,
+    0,
+    1,
+    0,
+    0,
+    0,
+    0,
+    0,
+    1,
+    0,
+    0,
+    1,
+    0,
+    0,
+    1,
+    1,
+    1,
+    0,
+    1,
+    1,
+    0,
+    0,
+    1,
+    1,
+    0,
+    1,
+    0,
+    0,
+    0,
+    1,
+    1,
+    1,
+    0,
+    0,
+    0,
+    0,
+    0,
+    1,
+    0,
+    1,
+    0,
+    0,
+    1,
+    1,
+    0,
+    0,
+    0,
+    0,
+    0,
+    0,
+    0,
+    1,
+    1,
+    0,
+    1,
+    0,
+    1,
+    1,
+    0,
+    0,
+    0,
+    1,
+    1,
+    0,
+    0,
+    0,
+];
+
+// The sync bit of a place.
+fn sync_at(place: usize) -> u8
+    requires { ⌜ place < 162 ⌝ }
+    ensures { λ r. ⌜ r ≡ syncAt place ⌝ }
+{
+    SYNC[place]
+}
+
+fn zeros() -> [u8; 162]
+    ensures { λ r. ⌜ r ≡ replicate 162 0 ⌝ }
+{
+    [0; 162]
+}
+
+// Writes the frame of a word's 50 lowest bits.
+pub(crate) fn write_symbols(word: u64, frame: &mut [u8])
+    requires { ⌜ length (now frame) ≡ 162 ⌝ }
+    ensures { λ _. ⌜ now (frame .exit) ≡ frameOf word ⌝ }
+{
+    let coded = convolution::encode(word);
+    let order = interleaver::order();
+    let mut place = 0;
+    while place < 162 {
+        frame[place] = sync_at(place) + 2 * coded[order[place] as usize];
+        place += 1;
+    }
+}
+
+// The first place whose symbol is above 3; the length where there is none.
+pub(crate) fn first_large(frame: &[u8]) -> usize
+    ensures { λ r. ⌜ r ≡ firstLarge (now (frame .entry)) ⌝ }
+{
+    let mut place = 0;
+    while place < frame.len() {
+        if 3 < frame[place] {
+            return place;
+        }
+        place += 1;
+    }
+    place
+}
+
+// The first place whose sync bit is wrong; the length where there is none.
+pub(crate) fn first_wrong_sync(frame: &[u8]) -> usize
+    requires { ⌜ length (now frame) ≤ 162 ⌝ }
+    ensures { λ r. ⌜ r ≡ firstWrongSync (now (frame .entry)) ⌝ }
+{
+    let mut place = 0;
+    while place < frame.len() {
+        if frame[place] % 2 != sync_at(place) {
+            return place;
+        }
+        place += 1;
+    }
+    place
+}
+
+// The data bits of a frame in coded order.
+fn received_bits(frame: &[u8]) -> [u8; 162]
+    requires { ⌜ length (now frame) ≡ 162 ⌝ }
+    ensures { λ r. ⌜ r ≡ receivedBits (now (frame .entry)) ⌝ }
+{
+    let places = interleaver::places();
+    let mut received = zeros();
+    let mut i = 0;
+    while i < 162 {
+        received[i] = frame[places[i] as usize] / 2;
+        i += 1;
+    }
+    received
+}
+
+// The word of a frame whose symbols and sync bits are right, or that there is none. Only one word
+// may have its data bits: that one is encoded anew, and compared.
+pub(crate) fn word_of_data(frame: &[u8]) -> Read
+    requires { ⌜ length (now frame) ≡ 162 ⌝ }
+    requires { ⌜ firstLarge (now frame) ≡ 162 ⌝ }
+    requires { ⌜ firstWrongSync (now frame) ≡ 162 ⌝ }
+    ensures { λ r. ⌜ r ≡ wordOfData (now (frame .entry)) ⌝ }
+{
+    let received = received_bits(frame);
+    let word = convolution::decode(received);
+    let coded = convolution::encode(word);
+    if !check::same(&coded, &received) {
+        return Read::Refused(Refusal {
+            number: NO_WORD,
+            place: 0,
+        });
+    }
+    Read::Word(word)
+}

@@ -1,0 +1,2 @@
+-- `Places`: the place of each coded bit, and the coded bit of each place.
+pub mod Places

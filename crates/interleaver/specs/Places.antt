@@ -1,0 +1,39 @@
+-- The places of the coded bits in a frame (01, 'Frame': Interleaving).
+use Prim.Native.Nat.{ℕ, zero, suc, _+_, _*_, _/_, _%_, _^_}
+use mathlib.Core.Bool.{cond, not}
+use mathlib.Core.List.{List, [], _∷_}
+use lib.Dec.{eqb, ltb}
+use lib.ListN.{getD}
+use Rattle.basics.specs.Lists.{tabulate, firstFailing}
+
+-- The n lowest bits of a number, reversed: the lowest goes to the top, and the others, reversed, below it.
+unfoldable pub reversedIn : ℕ → ℕ → ℕ
+reversedIn zero number = 0
+reversedIn (suc n) number = number % 2 * 2 ^ n + reversedIn n (number / 2)
+
+-- "J is I with its eight bits reversed"
+unfoldable pub reversed : ℕ → ℕ
+reversed i = reversedIn 8 i
+
+-- "for I from 0 to 255, .. if J is below 162 the next unused S goes to place J. A counter moves only when a bit is placed." These are the
+-- places from an address I on, for a number of addresses.
+unfoldable pub placesFrom : ℕ → ℕ → List ℕ
+placesFrom zero i = []
+placesFrom (suc n) i =
+    let rest = placesFrom n (suc i) in
+    cond (ltb (reversed i) 162) (reversed i ∷ rest) rest
+
+-- The place of each coded bit, in coded order: "S0, S1, S2, S3 go to places 0, 128, 64, 32."
+unfoldable pub places : List ℕ
+places = placesFrom 256 0
+
+unfoldable pub placeOf : ℕ → ℕ
+placeOf index = getD places index 0
+
+-- Its inverse: the index of the coded bit that goes to a place.
+unfoldable pub orderOf : ℕ → ℕ
+orderOf place = firstFailing (λ index p. not (eqb p place)) 0 places
+
+-- The index of each place's coded bit.
+unfoldable pub order : List ℕ
+order = tabulate 162 orderOf
