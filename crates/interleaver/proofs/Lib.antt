@@ -1,1 +1,2 @@
--- Laws.
+-- `PlaceLaws`: laws of the places.
+pub mod PlaceLaws

@@ -1,7 +1,7 @@
 // The interleaver: the place of each coded bit in a frame, and the coded bit of each place.
 ghost use mathlib.Core.Path.{_≡_};
 ghost use mathlib.Core.Bool.{cond};
-ghost use Prim.Native.Nat.{_+_};
+ghost use Prim.Native.Nat.{_+_, _<_};
 ghost use lib.Dec.{ltb};
 ghost use lib.ListN.{replicate};
 ghost use Rattle.interleaver.specs.Places.{reversed, places, order};

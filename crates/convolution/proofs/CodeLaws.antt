@@ -1,0 +1,139 @@
+-- Laws of the convolutional code: the clocked bits, the two registers, and parity under a mask whose lowest bit is 1.
+use mathlib.Core.Path.{_≡_, refl, ap, _∙_}
+use Prim.Native.Nat.{ℕ, zero, suc, _+_, _-_, _*_, _/_, _%_, _^_, _≤_, _<_, min}
+use native.Mathlib.Nat.{mod-lt, pow-suc, mul-comm}
+use native.Mathlib.Omega.{arith}
+use mathlib.Core.List.{List, [], _∷_, _++_}
+use lib.Bits.{bitAnd, bitOr, and-step, or-shifted}
+use lib.Count.{ones, ones-step}
+use lib.ListN.{length, getD, drop, replicate, length-append, length-replicate, getD-replicate, List·getD-append}
+use lib.Seq.{getD-append-add}
+use Rattle.basics.proofs.Choice.{below-or-not}
+use Rattle.radix.specs.Numeral.{Digits, Positive, count, digitsOf}
+use Rattle.radix.proofs.Laws.{digits-length, digits-in-range}
+use Rattle.convolution.specs.Code.{bitsOf, clockedBits, clocked, firstMask, secondMask, parity, codedFrom, codedBits}
+
+-- ---- The bits of a word
+
+pub count-bits : (n : ℕ) → count (replicate n 2) ≡ 2 ^ n
+unfolding count
+count-bits zero = refl
+count-bits (suc n) = rw (count-bits n, pow-suc 2 n) (mul-comm 2 (2 ^ n))
+
+pub positive-bits : (n : ℕ) → Positive (replicate n 2)
+unfolding Positive
+positive-bits zero = tt
+positive-bits (suc n) = (omega arith, positive-bits n)
+
+pub bits-in-range : (n number : ℕ) → Digits (replicate n 2) (bitsOf n number)
+unfolding bitsOf
+bits-in-range n number = digits-in-range (replicate n 2) number (positive-bits n)
+
+pub length-bitsOf : (n number : ℕ) → length (bitsOf n number) ≡ n
+length-bitsOf n number = digits-length (replicate n 2) (bitsOf n number) (bits-in-range n number) ∙ length-replicate n 2
+
+-- Bit i of n, highest first, has n - 1 - i bits below it.
+getD-bitsOf : (n number i below : ℕ) → i + suc below ≡ n → getD (bitsOf n number) i 0 ≡ number / 2 ^ below % 2
+unfolding bitsOf digitsOf
+getD-bitsOf zero number i below e = absurd (omega arith)
+getD-bitsOf (suc n) number zero below e =
+    let same : n ≡ below = omega arith in
+    rw (count-bits n, same)
+getD-bitsOf (suc n) number (suc i) below e = getD-bitsOf n number i below (omega arith)
+
+pub length-clockedBits : (word : ℕ) → length (clockedBits word) ≡ 81
+unfolding clockedBits
+length-clockedBits word = rw (length-append (bitsOf 50 word) (replicate 31 0), length-bitsOf 50 word)
+
+pub clocked-first : (word step : ℕ) → step < 50 → getD (clockedBits word) step 0 ≡ word / 2 ^ (49 - step) % 2
+unfolding clockedBits
+clocked-first word step h =
+    List·getD-append (bitsOf 50 word) (replicate 31 0) 0 step (omega (arith, length-bitsOf 50 word))
+    ∙ getD-bitsOf 50 word step (49 - step) (omega arith)
+
+pub clocked-last : (word step : ℕ) → 50 ≤ step → step < 81 → getD (clockedBits word) step 0 ≡ 0
+unfolding clockedBits
+clocked-last word step h k =
+    let past : step ≡ length (bitsOf 50 word) + (step - 50) = omega (arith, length-bitsOf 50 word) in
+    ap (λ (i : ℕ). getD (bitsOf 50 word ++ replicate 31 0) i 0) past
+    ∙ getD-append-add (bitsOf 50 word) (replicate 31 0) (step - 50) 0
+    ∙ getD-replicate 31 (step - 50) 0 0 (omega arith)
+
+pub clocked-below : (word step : ℕ) → step < 81 → getD (clockedBits word) step 0 < 2
+clocked-below word step h =
+    below-or-not step 50
+    (λ early. rw (clocked-first word step early) (mod-lt (word / 2 ^ (49 - step)) (omega arith)))
+    (λ late. rw (clocked-last word step late h) (omega arith))
+
+-- ---- The registers
+
+-- The older bits, and the newest.
+clocked-older : (register bit : ℕ) → bit < 2 → clocked register bit / 2 ≡ register % 2 ^ 31
+unfolding clocked
+clocked-older register bit h = omega arith
+
+clocked-newest : (register bit : ℕ) → bit < 2 → clocked register bit % 2 ≡ bit
+unfolding clocked
+clocked-newest register bit h = omega arith
+
+rejoined : (n older newest : ℕ) → n / 2 ≡ older → n % 2 ≡ newest → older * 2 ^ 1 + newest ≡ n
+rejoined n older newest e f = omega arith
+
+-- Shifted left, the new bit lowest.
+pub clocked-shifted : (register bit : ℕ) → bit < 2 → bitOr (register * 2 % 2 ^ 32) bit ≡ clocked register bit
+clocked-shifted register bit h =
+    let even : register * 2 % 2 ^ 32 ≡ register % 2 ^ 31 * 2 ^ 1 = omega arith in
+    rw (even, or-shifted (register % 2 ^ 31) 1 bit h)
+    (rejoined (clocked register bit) (register % 2 ^ 31) bit (clocked-older register bit h) (clocked-newest register bit h))
+
+-- Both registers hold the same bits: from one register on, they stay one.
+pub both-registers : (register bit : ℕ) (bits : List ℕ)
+    → codedFrom register register (bit ∷ bits)
+    ≡ parity firstMask (clocked register bit) ∷ parity secondMask (clocked register bit) ∷ codedFrom (clocked register bit) (clocked register bit) bits
+unfolding codedFrom
+both-registers register bit bits = refl
+
+pub length-codedFrom : (first second : ℕ) (bits : List ℕ) → length (codedFrom first second bits) ≡ 2 * length bits
+unfolding codedFrom
+length-codedFrom first second [] = refl
+length-codedFrom first second (bit ∷ bits) = omega (arith, length-codedFrom (clocked first bit) (clocked second bit) bits)
+
+pub length-codedBits : (word : ℕ) → length (codedBits word) ≡ 162
+unfolding codedBits
+length-codedBits word = omega (arith, length-codedFrom 0 0 (clockedBits word), length-clockedBits word)
+
+-- ---- Parity
+
+pub parity-below : (mask register : ℕ) → parity mask register < 2
+unfolding parity
+parity-below mask register = mod-lt (ones (bitAnd register mask)) (omega arith)
+
+pub coded-below : (first second : ℕ) (bits : List ℕ) (i : ℕ) → getD (codedFrom first second bits) i 0 < 2
+unfolding codedFrom
+coded-below first second [] i = omega arith
+coded-below first second (bit ∷ bits) zero = parity-below firstMask (clocked first bit)
+coded-below first second (bit ∷ bits) (suc zero) = parity-below secondMask (clocked second bit)
+coded-below first second (bit ∷ bits) (suc (suc i)) = coded-below (clocked first bit) (clocked second bit) bits i
+
+-- Under a mask whose lowest bit is 1 the new bit counts: the older bits' parity, plus the new bit.
+parity-clocked : (mask register bit : ℕ) → mask % 2 ≡ 1 → bit < 2
+    → parity mask (clocked register bit) ≡ (bit + ones (bitAnd (register % 2 ^ 31) (mask / 2))) % 2
+unfolding parity
+parity-clocked mask register bit odd h =
+    let x = bitAnd (register % 2 ^ 31) (mask / 2) in
+    let newest : (x * 2 + min bit 1) % 2 ≡ bit = omega arith in
+    let older : (x * 2 + min bit 1) / 2 ≡ x = omega arith in
+    rw (
+      and-step (clocked register bit) mask,
+      clocked-older register bit h,
+      clocked-newest register bit h,
+      odd,
+      ones-step (x * 2 + min bit 1),
+      newest,
+      older,
+    )
+
+-- So the coded bits of a 0 and of a 1 differ.
+pub parity-other : (mask register : ℕ) → mask % 2 ≡ 1 → parity mask (clocked register 0) + parity mask (clocked register 1) ≡ 1
+parity-other mask register odd =
+    omega (arith, parity-clocked mask register 0 odd (omega arith), parity-clocked mask register 1 odd (omega arith))

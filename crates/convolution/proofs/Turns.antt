@@ -1,0 +1,102 @@
+-- One turn of the loops of `encode` and `decode`, over lists.
+use mathlib.Core.Path.{_≡_, refl, sym, ap, _∙_, subst}
+use Prim.Native.Nat.{ℕ, suc, _+_, _-_, _*_, _^_, _≤_, _<_}
+use native.Mathlib.Nat.{add-zero, pow-suc}
+use native.Mathlib.Numerals.{add-one}
+use native.Mathlib.Omega.{arith}
+use mathlib.Core.List.{List, _∷_}
+use lib.ListN.{length, getD, drop, set, replicate, length-replicate}
+use lib.Seq.{drop-cons, drop-drop, getD-drop}
+use lib.Pow.{pow-mono}
+use Rattle.basics.proofs.ListLaws.{head-at}
+use Rattle.basics.proofs.Filling.{Filling, fill-starts, fill-turn, fill-ends}
+use Rattle.radix.specs.Numeral.{numberFrom, numberOf}
+use Rattle.convolution.specs.Code.{clockedBits, clocked, firstMask, secondMask, parity, codedFrom, codedBits}
+use Rattle.convolution.specs.Decoding.{nextBit, decodedFrom, decodedWord}
+use Rattle.convolution.proofs.CodeLaws.{length-clockedBits, length-codedBits, both-registers}
+use Rattle.convolution.proofs.DecodingLaws.{nextBit-below}
+
+-- ---- encode
+
+-- Before a turn: the coded bits of the steps so far are written, and the others are those of the register and the bits from here on.
+pub record Encoding (word : ℕ) (coded : List ℕ) (register step : ℕ) : Type 0 where
+  pub within : step ≤ 81
+  pub filled : Filling (codedBits word) coded (2 * step)
+  pub rest : drop (2 * step) (codedBits word) ≡ codedFrom register register (drop step (clockedBits word))
+
+pub encoding-starts : (word : ℕ) → Encoding word (replicate 162 0) 0 0
+unfolding codedBits
+encoding-starts word =
+    record {
+      within = omega arith;
+      filled = fill-starts (codedBits word) (replicate 162 0) (rw (length-codedBits word));
+      rest = refl;
+    }
+
+module _ (word : ℕ) (coded : List ℕ) (register step : ℕ) (before : step < 81) (now : Encoding word coded register step) where
+  module _ (next : ℕ) (e : next ≡ clocked register (getD (clockedBits word) step 0)) where
+    -- The two coded bits of this step, and those after it.
+    split : drop (2 * step) (codedBits word)
+        ≡ parity firstMask next ∷ parity secondMask next ∷ codedFrom next next (drop (suc step) (clockedBits word))
+    split =
+        now .rest
+        ∙ ap (codedFrom register register) (drop-cons (clockedBits word) step 0 (omega (arith, length-clockedBits word)))
+        ∙ rw e (both-registers register (getD (clockedBits word) step 0) (drop (suc step) (clockedBits word)))
+
+    pub encoding-turn : (first second : ℕ) → first ≡ parity firstMask next → second ≡ parity secondMask next
+        → Encoding word (set (set coded (2 * step) first) (2 * step + 1) second) next (step + 1)
+    encoding-turn first second e₁ e₂ =
+        let room = length-codedBits word in
+        let is-first : first ≡ getD (codedBits word) (2 * step) 0 =
+        e₁ ∙ sym (ap (λ (l : List ℕ). getD l 0 0) split) ∙ head-at (2 * step) (codedBits word) in
+        let is-second : second ≡ getD (codedBits word) (2 * step + 1) 0 =
+        e₂ ∙ sym (ap (λ (l : List ℕ). getD l 1 0) split) ∙ getD-drop (2 * step) (codedBits word) 1 0 in
+        let one = fill-turn (codedBits word) coded (2 * step) first (omega arith) is-first (now .filled) in
+        let two = fill-turn (codedBits word) _ (2 * step + 1) second (omega arith) is-second one in
+        let twice : 2 * (step + 1) ≡ 2 * step + 2 = omega arith in
+        record {
+          within = omega arith;
+          filled = subst (λ (i : ℕ). Filling (codedBits word) (set (set coded (2 * step) first) (2 * step + 1) second) i) (omega arith) two;
+          rest = rw (twice, ← drop-drop 2 (2 * step) (codedBits word), split, add-one);
+        }
+
+pub encoding-ends : (word : ℕ) (coded : List ℕ) (register step : ℕ) → 81 ≤ step → Encoding word coded register step → coded ≡ codedBits word
+encoding-ends word coded register step h now =
+    fill-ends (codedBits word) coded (2 * step) (omega (arith, length-codedBits word)) (now .filled)
+
+-- ---- decode
+
+-- Before a turn: the word so far, and the bits from here on, make the word.
+pub record Decoding (coded : List ℕ) (word register step : ℕ) : Type 0 where
+  pub within : step ≤ 50
+  pub word-below : word < 2 ^ step
+  pub rest : numberFrom word (replicate (50 - step) 2) (decodedFrom (50 - step) register (drop (2 * step) coded)) ≡ decodedWord coded
+
+pub decoding-starts : (coded : List ℕ) → Decoding coded 0 0 0
+unfolding decodedWord numberOf
+decoding-starts coded = record { within = omega arith; word-below = omega arith; rest = refl }
+
+pub decoding-fits : (coded : List ℕ) (word register step bit : ℕ) → step < 50 → Decoding coded word register step → bit < 2
+    → word * 2 + bit < 2 ^ 50
+decoding-fits coded word register step bit h now below =
+    let room : 2 ^ step ≤ 2 ^ 49 = pow-mono {i = step} {j = 49} (omega arith) in
+    omega (arith, now .word-below)
+
+pub decoding-turn : (coded : List ℕ) (word register step bit next : ℕ) → step < 50 → Decoding coded word register step
+    → bit ≡ nextBit register (getD coded (2 * step) 0) → next ≡ clocked register bit → Decoding coded (word * 2 + bit) next (step + 1)
+unfolding numberFrom decodedFrom
+decoding-turn coded word register step bit next h now e e₂ =
+    let below : bit < 2 = rw e (nextBit-below register (getD coded (2 * step) 0)) in
+    let left : 50 - step ≡ suc (50 - (step + 1)) = omega arith in
+    let twice : 2 * (step + 1) ≡ 2 * step + 2 = omega arith in
+    record {
+      within = omega arith;
+      word-below = rw (add-one step, pow-suc 2 step) (omega (arith, now .word-below));
+      rest = rw (twice, ← drop-drop 2 (2 * step) coded, e₂, e) (rw (left, head-at (2 * step) coded) at (now .rest));
+    }
+
+pub decoding-ends : (coded : List ℕ) (word register step : ℕ) → 50 ≤ step → Decoding coded word register step → word ≡ decodedWord coded
+unfolding numberFrom
+decoding-ends coded word register step h now =
+    let over : 50 - step ≡ 0 = omega arith in
+    rw over at (now .rest)

@@ -1,0 +1,17 @@
+-- `convolution::second_coded` meets its contract: the parity under the second mask.
+-- Assumes nothing.
+use borrow.Author.Needs.{needs}
+use Rattle.convolution.specs.Code.{secondMask}
+use borrow.Author.Needs.{needs}
+use Rattle.convolution.proofs.second_coded.Statement.{statement}
+use Rattle.convolution.proofs.second_coded.Tie as tie
+
+parity-requires : tie.Need-parity-requires
+parity-requires c κs = search needs
+
+returns : tie.Need-returns
+unfolding secondMask
+returns c = c .parity .ensures
+
+pub second-coded-spec : {M : Type 1} → statement M
+second-coded-spec = tie.close (tie.spec parity-requires returns)
