@@ -1,7 +1,7 @@
 // The convolutional code of a word: its 162 coded bits, and the word that coded bits determine.
 ghost use mathlib.Core.Path.{_≡_};
 ghost use Prim.Native.Nat.{_<_};
-ghost use lib.ListN.{getD, replicate};
+ghost use lib.ListN.{getD};
 ghost use Rattle.convolution.specs.Code.{firstMask, secondMask, clocked, parity, clockedBits, codedBits};
 ghost use Rattle.convolution.specs.Decoding.{nextBit, decodedWord};
 
@@ -51,17 +51,11 @@ fn clocked_bit(word: u64, step: usize) -> u8
     }
 }
 
-fn zeros() -> [u8; 162]
-    ensures { λ r. ⌜ r ≡ replicate 162 0 ⌝ }
-{
-    [0; 162]
-}
-
 // The 162 coded bits of a word's 50 lowest bits.
 pub fn encode(word: u64) -> [u8; 162]
     ensures { λ r. ⌜ r ≡ codedBits word ⌝ }
 {
-    let mut coded = zeros();
+    let mut coded = basics::zeros();
     let mut register: u32 = 0;
     let mut step = 0;
     while step < 81 {

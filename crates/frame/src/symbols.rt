@@ -1,7 +1,7 @@
 // The symbols of a frame: sync bit and data bit, and the coded bits behind them.
 ghost use mathlib.Core.Path.{_≡_};
 ghost use Prim.Native.Nat.{_≤_, _<_};
-ghost use lib.ListN.{length, replicate};
+ghost use lib.ListN.{length};
 ghost use Rattle.frame.specs.Symbols.{syncAt, frameOf, receivedBits};
 ghost use Rattle.frame.specs.Answer.{firstLarge, firstWrongSync, wordOfData};
 use super::Read;
@@ -182,12 +182,6 @@ fn sync_at(place: usize) -> u8
     SYNC[place]
 }
 
-fn zeros() -> [u8; 162]
-    ensures { λ r. ⌜ r ≡ replicate 162 0 ⌝ }
-{
-    [0; 162]
-}
-
 // Writes the frame of a word's 50 lowest bits.
 pub(crate) fn write_symbols(word: u64, frame: &mut [u8])
     requires { ⌜ length (now frame) ≡ 162 ⌝ }
@@ -237,7 +231,7 @@ fn received_bits(frame: &[u8]) -> [u8; 162]
     ensures { λ r. ⌜ r ≡ receivedBits (now (frame .entry)) ⌝ }
 {
     let places = interleaver::places();
-    let mut received = zeros();
+    let mut received = basics::zeros();
     let mut i = 0;
     while i < 162 {
         received[i] = frame[places[i] as usize] / 2;

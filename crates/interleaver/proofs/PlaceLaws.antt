@@ -38,6 +38,10 @@ pub length-places : length places ≡ 162
 unfolding places placesFrom reversed reversedIn
 length-places = refl
 
+pub getD-places : (index : ℕ) → getD places index 0 ≡ placeOf index
+unfolding placeOf
+getD-places index = refl
+
 -- Of every coded bit: its place is one of 162, and that place's coded bit is this one.
 placed : ℕ → Bool
 placed index = ltb (placeOf index) 162 && eqb (orderOf (placeOf index)) index

@@ -3,7 +3,6 @@ ghost use mathlib.Core.Path.{_≡_};
 ghost use mathlib.Core.Bool.{cond};
 ghost use Prim.Native.Nat.{_+_, _<_};
 ghost use lib.Dec.{ltb};
-ghost use lib.ListN.{replicate};
 ghost use Rattle.interleaver.specs.Places.{reversed, places, order};
 
 // The address with its eight bits reversed: its halves exchanged, then its pairs, then its bits.
@@ -23,17 +22,11 @@ fn moved(counter: usize, place: u8) -> usize
     if place < 162 { counter + 1 } else { counter }
 }
 
-fn zeros() -> [u8; 162]
-    ensures { λ r. ⌜ r ≡ replicate 162 0 ⌝ }
-{
-    [0; 162]
-}
-
 // The place of each coded bit.
 pub fn places() -> [u8; 162]
     ensures { λ r. ⌜ r ≡ places ⌝ }
 {
-    let mut places = zeros();
+    let mut places = basics::zeros();
     let mut counter = 0;
     let mut address: usize = 0;
     while address < 256 {
@@ -52,7 +45,7 @@ pub fn order() -> [u8; 162]
     ensures { λ r. ⌜ r ≡ order ⌝ }
 {
     let places = places();
-    let mut order = zeros();
+    let mut order = basics::zeros();
     let mut i = 0;
     while i < 162 {
         order[places[i] as usize] = i as u8;
