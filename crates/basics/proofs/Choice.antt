@@ -44,6 +44,11 @@ module _ {A : Type 0} (t : Bool) {x y z : A} where
       go true e = (refl, e)
       go false e = absurd (other e)
 
+-- What holds of both cases holds of a choice.
+pub cond-both : {A : Type 0} (P : A → Type 0) (t : Bool) {x y : A} → P x → P y → P (cond t x y)
+cond-both P true p q = p
+cond-both P false p q = q
+
 -- ---- Proof by cases of a test
 
 pub by-test : {A : Type 0} (t : Bool) → (t ≡ true → A) → (t ≡ false → A) → A

@@ -1,7 +1,7 @@
 -- Laws of lists by their places: a list by a rule, the first place where a test fails, and whether two lists are the same.
 use mathlib.Core.Path.{_≡_, refl, sym, ap, _∙_}
 use Prim.Native.Nat.{ℕ, zero, suc, _+_, _≤_, _<_}
-use native.Mathlib.Nat.{add-suc, add-zero}
+use native.Mathlib.Nat.{add-suc, add-zero, suc-add, zero-add}
 use native.Mathlib.Numerals.{add-one}
 use native.Mathlib.Omega.{arith}
 use mathlib.Core.Bool.{Bool, true, false, false≢true}
@@ -77,6 +77,25 @@ module _ (test : ℕ → ℕ → Bool) where
   unfolding firstFailing AllPass
   none-fails place [] h = omega arith
   none-fails place (x ∷ xs) h = rw (h .0) (none-fails (suc place) xs (h .1) ∙ omega arith)
+
+  -- All pass exactly where the test holds at every index.
+  pass-at : (place : ℕ) (xs : List ℕ) → AllPass place xs → (i : ℕ) → i < length xs → test (place + i) (getD xs i 0) ≡ true
+  unfolding AllPass
+  pass-at place [] h i k = absurd (omega arith)
+  pass-at place (x ∷ xs) h zero k = rw (add-zero place) (h .0)
+  pass-at place (x ∷ xs) h (suc i) k = rw (add-suc place i, ← suc-add place i) (pass-at (suc place) xs (h .1) i (omega arith))
+
+  pass-each : (place : ℕ) (xs : List ℕ) → ((i : ℕ) → i < length xs → test (place + i) (getD xs i 0) ≡ true) → AllPass place xs
+  unfolding AllPass
+  pass-each place [] h = tt
+  pass-each place (x ∷ xs) h =
+      (rw (add-zero place) at (h zero (omega arith)), pass-each (suc place) xs (λ i k. rw (suc-add place i, ← add-suc place i) (h (suc i) (omega arith))))
+
+  pub passes-at : (xs : List ℕ) → length xs ≤ firstFailing test 0 xs → (i : ℕ) → i < length xs → test i (getD xs i 0) ≡ true
+  passes-at xs e i h = rw (zero-add i) at (pass-at 0 xs (all-pass 0 xs (omega arith)) i h)
+
+  pub passes-each : (xs : List ℕ) → ((i : ℕ) → i < length xs → test i (getD xs i 0) ≡ true) → firstFailing test 0 xs ≡ length xs
+  passes-each xs h = none-fails 0 xs (pass-each 0 xs (λ i k. rw (zero-add i) (h i k))) ∙ zero-add (length xs)
 
   -- Two lists one after the other: the first failing place is that of the first list, or else that of the second.
   pub firstFailing-append : (place end : ℕ) (xs ys : List ℕ) → place + length xs ≡ end → AllPass place xs

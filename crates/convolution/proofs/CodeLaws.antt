@@ -108,12 +108,16 @@ pub parity-below : (mask register : ℕ) → parity mask register < 2
 unfolding parity
 parity-below mask register = mod-lt (ones (bitAnd register mask)) (omega arith)
 
-pub coded-below : (first second : ℕ) (bits : List ℕ) (i : ℕ) → getD (codedFrom first second bits) i 0 < 2
+coded-below : (first second : ℕ) (bits : List ℕ) (i : ℕ) → getD (codedFrom first second bits) i 0 < 2
 unfolding codedFrom
 coded-below first second [] i = omega arith
 coded-below first second (bit ∷ bits) zero = parity-below firstMask (clocked first bit)
 coded-below first second (bit ∷ bits) (suc zero) = parity-below secondMask (clocked second bit)
 coded-below first second (bit ∷ bits) (suc (suc i)) = coded-below (clocked first bit) (clocked second bit) bits i
+
+pub codedBits-below : (word i : ℕ) → getD (codedBits word) i 0 < 2
+unfolding codedBits
+codedBits-below word i = coded-below 0 0 (clockedBits word) i
 
 -- Under a mask whose lowest bit is 1 the new bit counts: the older bits' parity, plus the new bit.
 parity-clocked : (mask register bit : ℕ) → mask % 2 ≡ 1 → bit < 2

@@ -244,8 +244,8 @@ fn received_bits(frame: &[u8]) -> [u8; 162]
 // may have its data bits: that one is encoded anew, and compared.
 pub(crate) fn word_of_data(frame: &[u8]) -> Read
     requires { ⌜ length (now frame) ≡ 162 ⌝ }
-    requires { ⌜ firstLarge (now frame) ≡ 162 ⌝ }
-    requires { ⌜ firstWrongSync (now frame) ≡ 162 ⌝ }
+    requires { ⌜ 162 ≤ firstLarge (now frame) ⌝ }
+    requires { ⌜ 162 ≤ firstWrongSync (now frame) ⌝ }
     ensures { λ r. ⌜ r ≡ wordOfData (now (frame .entry)) ⌝ }
 {
     let received = received_bits(frame);

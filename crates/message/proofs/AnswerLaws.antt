@@ -8,7 +8,7 @@ use mathlib.Core.List.{List, _++_}
 use lib.Dec.{eqb, leb, ltb}
 use lib.ListN.{length}
 use borrow.Author.Tests.{not-false, le-leb, leb-false, ltb-false, lt-leb, lt-ltb, le-ltb, eqb-true, eq-eqb}
-use Rattle.basics.proofs.Choice.{both-true, both-false, cond-passed, by-test, below-or-not}
+use Rattle.basics.proofs.Choice.{both-true, both-false, cond-passed, cond-both, by-test, below-or-not}
 use Rattle.refusal.specs.declared.Refusal.{Refusal}
 use Rattle.refusal.specs.Refusals.{refusal, wrongLength, badCharacter, badPower, wordTooLarge, badLocatorNumber, badPowerBits}
 use Rattle.message.specs.Character.{firstBad, legalAt}
@@ -173,19 +173,21 @@ pub packed-answered : (callsign locator : List ℕ) (power : ℕ) → packedNumb
     → packed callsign locator power ≡ Packed.Word (packedNumbers (packed callsign locator power) .word)
 unfolding packed packedNumbers
 packed-answered callsign locator power =
-    by-test (not (rightLengths (length callsign) (length locator))) (λ e. rw e (λ z. absurd (omega arith)))
-    (λ e. rw e (by-test (ltb (firstBad 0 (callsign ++ locator)) 10) (λ e. rw e (λ z. absurd (omega arith)))
-    (λ e. rw e (by-test (not (legalPower power)) (λ e. rw e (λ z. absurd (omega arith))) (λ e. rw e (λ z. refl))))))
+    let bad = firstBad 0 (callsign ++ locator) in
+    let P : Packed → Type 0 = λ a. packedNumbers a .number ≡ 0 → a ≡ Packed.Word (packedNumbers a .word) in
+    cond-both P (not (rightLengths (length callsign) (length locator))) (λ z. absurd (omega arith))
+    (cond-both P (ltb bad 10) (λ z. absurd (omega arith))
+    (cond-both P (not (legalPower power)) (λ z. absurd (omega arith)) (λ z. refl)))
 
 pub unpacked-answered : (callsign locator : List ℕ) (word : ℕ) → unpackedNumbers (unpacked callsign locator word) .number ≡ 0
     → unpacked callsign locator word ≡ Unpacked.Power (unpackedNumbers (unpacked callsign locator word) .power)
 unfolding unpacked wordAnswer unpackedNumbers
 unpacked-answered callsign locator word =
-    by-test (not (rightLengths (length callsign) (length locator))) (λ e. rw e (λ z. absurd (omega arith)))
-    (λ e. rw e (by-test (leb (2 ^ 50) word || leb 262_177_560 (callsignPart word)) (λ e. rw e (λ z. absurd (omega arith)))
-    (λ e. rw e (by-test (leb 32_400 (locatorPart word)) (λ e. rw e (λ z. absurd (omega arith)))
-    (λ e. rw e (by-test (ltb (powerPart word) 64 || not (legalPower (powerPart word - 64))) (λ e. rw e (λ z. absurd (omega arith)))
-    (λ e. rw e (λ z. refl))))))))
+    let P : Unpacked → Type 0 = λ a. unpackedNumbers a .number ≡ 0 → a ≡ Unpacked.Power (unpackedNumbers a .power) in
+    cond-both P (not (rightLengths (length callsign) (length locator))) (λ z. absurd (omega arith))
+    (cond-both P (leb (2 ^ 50) word || leb 262_177_560 (callsignPart word)) (λ z. absurd (omega arith))
+    (cond-both P (leb 32_400 (locatorPart word)) (λ z. absurd (omega arith))
+    (cond-both P (ltb (powerPart word) 64 || not (legalPower (powerPart word - 64))) (λ z. absurd (omega arith)) (λ z. refl))))
 
 pub refused-number : (callsign locator : List ℕ) (word : ℕ)
     → IsRefused (unpacked callsign locator word) ↔ (unpackedNumbers (unpacked callsign locator word) .number ≡ 0 → ⊥)

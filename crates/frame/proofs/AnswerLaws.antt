@@ -1,0 +1,144 @@
+-- The cases of the definitions of the answers, each by what holds there, and what an answer that is no refusal says of its input.
+use mathlib.Core.Path.{_≡_, refl, sym, ap, _∙_}
+use Prim.Native.Nat.{ℕ, _^_, _≤_, _<_}
+use native.Mathlib.Omega.{arith}
+use mathlib.Core.Bool.{Bool, true, false, cond, not}
+use mathlib.Core.List.{List}
+use lib.Dec.{eqb, leb, ltb}
+use lib.ListN.{length}
+use borrow.Author.Tests.{not-false, le-leb, leb-false, lt-leb, lt-ltb, le-ltb, ltb-false, eq-eqb, ne-eqb, eqb-true}
+use Rattle.basics.specs.Lists.{sameList}
+use Rattle.basics.proofs.Choice.{cond-passed, cond-held, by-test}
+use Rattle.basics.proofs.ListLaws.{sameList-equal, sameList-itself}
+use Rattle.refusal.specs.declared.Refusal.{Refusal}
+use Rattle.refusal.specs.Refusals.{refusal, wrongLength, wordTooLarge, symbolTooLarge, wrongSync, noWord}
+use Rattle.message.specs.Answer.{packed}
+use Rattle.message.specs.Word.{wordOf}
+use Rattle.message.specs.declared.Packed.{Packed}
+use Rattle.message.proofs.AnswerLaws.{legal-of-packed}
+use Rattle.convolution.specs.Code.{codedBits}
+use Rattle.convolution.specs.Decoding.{decodedWord}
+use Rattle.convolution.proofs.DecodingLaws.{decodedWord-below}
+use Rattle.frame.specs.Symbols.{frameOf, receivedBits}
+use Rattle.frame.specs.Answer.{wordWritten, writtenAs, messageWritten, frameAfter, frameAfterWord, frameAfterMessage, firstLarge, firstWrongSync, wordOfData, wordRead}
+use Rattle.frame.specs.RoundTrip.{RightForm}
+use Rattle.frame.specs.declared.Written.{Written}
+use Rattle.frame.specs.declared.Read.{Read}
+use Rattle.frame.proofs.SymbolLaws.{received-frameOf, decoded-frameOf, frame-right-form, frame-by-data, none-large, none-wrong}
+
+-- ---- The cases of writing from a word
+
+refused-not-done : (f : Refusal) → Written.Refused f ≡ Written.Done → ⊥
+refused-not-done f e = let z : _≡_ {A = ℕ} 0 1 = cc in omega arith
+
+module _ (frame : List ℕ) (word : ℕ) where
+  pub written-length : (length frame ≡ 162 → ⊥) → wordWritten frame word ≡ Written.Refused (refusal wrongLength 0)
+  unfolding wordWritten
+  written-length other = rw (ne-eqb _ _ other)
+
+  pub written-large : length frame ≡ 162 → 2 ^ 50 ≤ word → wordWritten frame word ≡ Written.Refused (refusal wordTooLarge 0)
+  unfolding wordWritten
+  written-large e h = rw (eq-eqb _ _ e, le-leb _ _ h)
+
+  pub written-done : length frame ≡ 162 → word < 2 ^ 50 → wordWritten frame word ≡ Written.Done
+  unfolding wordWritten
+  written-done e h = rw (eq-eqb _ _ e, lt-leb _ _ h)
+
+  pub done-of-word : wordWritten frame word ≡ Written.Done → (length frame ≡ 162) × (word < 2 ^ 50)
+  unfolding wordWritten
+  done-of-word e =
+      let lengths = cond-passed (not (eqb (length frame) 162)) e (refused-not-done _) in
+      let large = cond-passed (leb (2 ^ 50) word) (lengths .1) (refused-not-done _) in
+      (eqb-true _ _ (not-false _ (lengths .0)), leb-false _ _ (large .0))
+
+  pub after-word-done : wordWritten frame word ≡ Written.Done → frameAfterWord frame word ≡ frameOf word
+  unfolding frameAfterWord frameAfter
+  after-word-done e = rw e
+
+-- ---- The cases of writing from a message
+
+module _ (callsign locator : List ℕ) (power : ℕ) (frame : List ℕ) where
+  pub message-length : (length frame ≡ 162 → ⊥) → messageWritten callsign locator power frame ≡ Written.Refused (refusal wrongLength 0)
+  unfolding messageWritten
+  message-length other = rw (ne-eqb _ _ other)
+
+  pub message-packed : length frame ≡ 162 → messageWritten callsign locator power frame ≡ writtenAs (packed callsign locator power)
+  unfolding messageWritten
+  message-packed e = rw (eq-eqb _ _ e)
+
+  pub done-of-message : messageWritten callsign locator power frame ≡ Written.Done
+      → (length frame ≡ 162) × (packed callsign locator power ≡ Packed.Word (wordOf callsign locator power))
+  unfolding messageWritten writtenAs
+  done-of-message e =
+      let lengths = cond-passed (not (eqb (length frame) 162)) e (refused-not-done _) in
+      (eqb-true _ _ (not-false _ (lengths .0)), its-word (packed callsign locator power) refl (lengths .1))
+    where
+      its-word : (answer : Packed) → packed callsign locator power ≡ answer → writtenAs answer ≡ Written.Done
+          → packed callsign locator power ≡ Packed.Word (wordOf callsign locator power)
+      its-word (Packed.Word w) p done = p ∙ ap Packed.Word (legal-of-packed callsign locator power w p .1)
+      its-word (Packed.Refused f) p done = absurd (refused-not-done f done)
+
+  pub after-message-done : messageWritten callsign locator power frame ≡ Written.Done
+      → frameAfterMessage callsign locator power frame ≡ frameOf (wordOf callsign locator power)
+  unfolding frameAfterMessage frameAfter
+  after-message-done e = rw e
+
+-- ---- The cases of strict reading to the word
+
+refused-not-word : (f : Refusal) (word : ℕ) → Read.Refused f ≡ Read.Word word → ⊥
+refused-not-word f word e = let z : _≡_ {A = ℕ} 0 1 = cc in omega arith
+
+module _ (frame : List ℕ) where
+  pub read-length : (length frame ≡ 162 → ⊥) → wordRead frame ≡ Read.Refused (refusal wrongLength 0)
+  unfolding wordRead
+  read-length other = rw (ne-eqb _ _ other)
+
+  module _ (right : length frame ≡ 162) where
+    pub read-large : (large : ℕ) → large ≡ firstLarge frame → large < 162 → wordRead frame ≡ Read.Refused (refusal symbolTooLarge large)
+    unfolding wordRead
+    read-large large e h = rw (eq-eqb _ _ right, ← e, lt-ltb _ _ h)
+
+    module _ (small : 162 ≤ firstLarge frame) where
+      pub read-sync : (wrong : ℕ) → wrong ≡ firstWrongSync frame → wrong < 162 → wordRead frame ≡ Read.Refused (refusal wrongSync wrong)
+      unfolding wordRead
+      read-sync wrong e h = rw (eq-eqb _ _ right, le-ltb _ _ small, ← e, lt-ltb _ _ h)
+
+      pub read-data : 162 ≤ firstWrongSync frame → wordRead frame ≡ wordOfData frame
+      unfolding wordRead
+      read-data h = rw (eq-eqb _ _ right, le-ltb _ _ small, le-ltb _ _ h)
+
+  -- Of a frame of the right form the word that its data bits determine is encoded anew, and compared.
+  module _ (form : RightForm frame) (word : ℕ) (e : word ≡ decodedWord (receivedBits frame)) where
+    pub data-word : codedBits word ≡ receivedBits frame → wordOfData frame ≡ Read.Word word
+    unfolding wordOfData
+    data-word same = rw (← e, frame-by-data word frame form same, sameList-itself frame)
+
+    pub data-none : (codedBits word ≡ receivedBits frame → ⊥) → wordOfData frame ≡ Read.Refused (refusal noWord 0)
+    unfolding wordOfData
+    data-none other =
+        rw (← e)
+        (by-test (sameList (frameOf word) frame)
+        (λ t. absurd (other (sym (received-frameOf word) ∙ ap receivedBits (sameList-equal _ _ t))))
+        (λ t. rw t))
+
+  -- A frame of the right form is read by its data bits.
+  pub read-form : RightForm frame → wordRead frame ≡ wordOfData frame
+  read-form form =
+      read-data (form .right-length) (omega (arith, none-large frame form)) (omega (arith, none-wrong frame form))
+
+  pub word-of-read : (word : ℕ) → wordRead frame ≡ Read.Word word → (word < 2 ^ 50) × (frameOf word ≡ frame)
+  unfolding wordRead wordOfData
+  word-of-read word e =
+      let lengths = cond-passed (not (eqb (length frame) 162)) e (refused-not-word _ word) in
+      let large = cond-passed (ltb (firstLarge frame) 162) (lengths .1) (refused-not-word _ word) in
+      let wrong = cond-passed (ltb (firstWrongSync frame) 162) (large .1) (refused-not-word _ word) in
+      let its-word = decodedWord (receivedBits frame) in
+      let same = cond-held (sameList (frameOf its-word) frame) (wrong .1) (refused-not-word _ word) in
+      let is : its-word ≡ word = cc in
+      (rw (← is) (decodedWord-below (receivedBits frame)), rw (← is) (sameList-equal (frameOf its-word) frame (same .0)))
+
+-- A word's frame reads as the word.
+pub read-frameOf : (word : ℕ) → word < 2 ^ 50 → wordRead (frameOf word) ≡ Read.Word word
+read-frameOf word h =
+    read-form (frameOf word) (frame-right-form word)
+    ∙ data-word (frameOf word) (frame-right-form word) word (sym (decoded-frameOf word h)) (sym (received-frameOf word))

@@ -1,0 +1,128 @@
+-- Laws of symbols: a frame's sync and data bits, and its coded bits back again.
+use mathlib.Core.Path.{_≡_, refl, sym, ap, _∙_}
+use Prim.Native.Nat.{ℕ, _+_, _*_, _/_, _%_, _^_, _≤_, _<_}
+use native.Mathlib.Omega.{arith}
+use mathlib.Core.List.{List}
+use lib.Dec.{eqb, leb, ltb}
+use lib.ListN.{length, getD}
+use lib.Seq.{ext-getD}
+use borrow.Author.Tests.{ltb-true, leb-true, eqb-true, le-leb, eq-eqb}
+use Rattle.basics.specs.Lists.{tabulate}
+use Rattle.basics.proofs.Tables.{every-at}
+use Rattle.basics.proofs.ListLaws.{length-tabulate, getD-tabulate, by-rule, passes-at, passes-each}
+use Rattle.convolution.specs.Code.{codedBits}
+use Rattle.convolution.specs.Decoding.{decodedWord}
+use Rattle.convolution.proofs.CodeLaws.{length-codedBits, codedBits-below}
+use Rattle.convolution.proofs.DecodingLaws.{decode-encode}
+use Rattle.interleaver.specs.Places.{placeOf, orderOf}
+use Rattle.interleaver.proofs.PlaceLaws.{placeOf-below, orderOf-below, orderOf-placeOf, placeOf-orderOf}
+use Rattle.frame.specs.Symbols.{syncVector, syncAt, symbolAt, frameOf, receivedBits}
+use Rattle.frame.specs.Answer.{firstLarge, firstWrongSync}
+use Rattle.frame.specs.RoundTrip.{RightForm}
+
+-- ---- Symbols
+
+pub sync-below : (place : ℕ) → syncAt place < 2
+unfolding syncAt syncVector
+sync-below place = ltb-true _ _ (every-at (λ s. ltb s 2) syncVector 0 refl refl place)
+
+module _ (word place : ℕ) where
+  pub symbol-to-3 : symbolAt (codedBits word) place ≤ 3
+  unfolding symbolAt
+  symbol-to-3 = omega (arith, sync-below place, codedBits-below word (orderOf place))
+
+  pub symbol-sync : symbolAt (codedBits word) place % 2 ≡ syncAt place
+  unfolding symbolAt
+  symbol-sync = omega (arith, sync-below place)
+
+  pub symbol-data : symbolAt (codedBits word) place / 2 ≡ getD (codedBits word) (orderOf place) 0
+  unfolding symbolAt
+  symbol-data = omega (arith, sync-below place)
+
+-- ---- The frame of a word
+
+pub length-frameOf : (word : ℕ) → length (frameOf word) ≡ 162
+unfolding frameOf
+length-frameOf word = length-tabulate 162 (symbolAt (codedBits word))
+
+pub getD-frameOf : (word place : ℕ) → place < 162 → getD (frameOf word) place 0 ≡ symbolAt (codedBits word) place
+unfolding frameOf
+getD-frameOf word place h = getD-tabulate 162 (symbolAt (codedBits word)) place h
+
+pub frame-right-form : (word : ℕ) → RightForm (frameOf word)
+frame-right-form word =
+    record {
+      right-length = length-frameOf word;
+      symbols-to-3 = λ place h. rw (getD-frameOf word place h) (symbol-to-3 word place);
+      right-sync = λ place h. rw (getD-frameOf word place h) (symbol-sync word place);
+    }
+
+-- ---- Back to the coded bits
+
+pub length-receivedBits : (frame : List ℕ) → length (receivedBits frame) ≡ 162
+unfolding receivedBits
+length-receivedBits frame = length-tabulate 162 (λ index. getD frame (placeOf index) 0 / 2)
+
+pub getD-receivedBits : (frame : List ℕ) (index : ℕ) → index < 162 → getD (receivedBits frame) index 0 ≡ getD frame (placeOf index) 0 / 2
+unfolding receivedBits
+getD-receivedBits frame index h = getD-tabulate 162 (λ index. getD frame (placeOf index) 0 / 2) index h
+
+-- What is received of a word's frame is its coded bits.
+pub received-frameOf : (word : ℕ) → receivedBits (frameOf word) ≡ codedBits word
+unfolding receivedBits
+received-frameOf word =
+    sym
+    (by-rule 162 (λ index. getD (frameOf word) (placeOf index) 0 / 2) (codedBits word) (length-codedBits word)
+    (λ index h.
+    let there = getD-frameOf word (placeOf index) (placeOf-below index h) in
+    rw (there, symbol-data word (placeOf index), orderOf-placeOf index h)))
+
+-- So the word is read back, and different words have different frames.
+pub decoded-frameOf : (word : ℕ) → word < 2 ^ 50 → decodedWord (receivedBits (frameOf word)) ≡ word
+decoded-frameOf word h = ap decodedWord (received-frameOf word) ∙ decode-encode word h
+
+pub frameOf-injective : (v w : ℕ) → v < 2 ^ 50 → w < 2 ^ 50 → frameOf v ≡ frameOf w → v ≡ w
+frameOf-injective v w h k e =
+    sym (decoded-frameOf v h) ∙ ap (λ (f : List ℕ). decodedWord (receivedBits f)) e ∙ decoded-frameOf w k
+
+-- A frame of the right form is a word's where its data bits are the word's coded bits.
+pub frame-by-data : (word : ℕ) (frame : List ℕ) → RightForm frame → codedBits word ≡ receivedBits frame → frameOf word ≡ frame
+unfolding symbolAt
+frame-by-data word frame form e =
+    ext-getD 0 (frameOf word) frame (length-frameOf word ∙ sym (form .right-length))
+    (λ place h.
+    let within : place < 162 = omega (arith, length-frameOf word) in
+    let index : orderOf place < 162 = orderOf-below place within in
+    let its-data : getD (codedBits word) (orderOf place) 0 ≡ getD frame place 0 / 2 =
+    ap (λ (l : List ℕ). getD l (orderOf place) 0) e
+    ∙ getD-receivedBits frame (orderOf place) index
+    ∙ ap (λ (p : ℕ). getD frame p 0 / 2) (placeOf-orderOf place within) in
+    let whole : syncAt place + 2 * getD (codedBits word) (orderOf place) 0 ≡ getD frame place 0 = omega (arith, form .right-sync place within) in
+    getD-frameOf word place within ∙ whole)
+
+-- ---- The right form, by the first place that hasn't it
+
+module _ (frame : List ℕ) where
+  pub form-of-tests : length frame ≡ 162 → 162 ≤ firstLarge frame → 162 ≤ firstWrongSync frame → RightForm frame
+  unfolding firstLarge firstWrongSync
+  form-of-tests e large wrong =
+      record {
+        right-length = e;
+        symbols-to-3 = λ place h. leb-true _ _ (passes-at (λ place symbol. leb symbol 3) frame (rw e large) place (omega arith));
+        right-sync =
+          λ place h. eqb-true _ _ (passes-at (λ place symbol. eqb (symbol % 2) (syncAt place)) frame (rw e wrong) place (omega arith));
+      }
+
+  module _ (form : RightForm frame) where
+    pub none-large : firstLarge frame ≡ 162
+    unfolding firstLarge
+    none-large =
+        passes-each (λ place symbol. leb symbol 3) frame (λ place h. le-leb _ _ (form .symbols-to-3 place (omega (arith, form .right-length))))
+        ∙ form .right-length
+
+    pub none-wrong : firstWrongSync frame ≡ 162
+    unfolding firstWrongSync
+    none-wrong =
+        passes-each (λ place symbol. eqb (symbol % 2) (syncAt place)) frame
+        (λ place h. eq-eqb _ _ (form .right-sync place (omega (arith, form .right-length))))
+        ∙ form .right-length
