@@ -114,16 +114,15 @@ module _ (test : ℕ → ℕ → Bool) where
       (λ e. rw e refl)
 
   -- A loop that looks for it, from an index on.
-  module _ (start : ℕ) (xs : List ℕ) (i : ℕ) where
-    pub search-failed : i < length xs → test (start + i) (getD xs i 0) ≡ false → firstFailing test (start + i) (drop i xs) ≡ start + i
-    search-failed h e = rw (drop-cons xs i 0 h) (first-failed (start + i) (getD xs i 0) (drop (suc i) xs) e)
+  module _ (xs : List ℕ) (i place : ℕ) where
+    pub search-failed : i < length xs → test place (getD xs i 0) ≡ false → firstFailing test place (drop i xs) ≡ place
+    search-failed h e = rw (drop-cons xs i 0 h) (first-failed place (getD xs i 0) (drop (suc i) xs) e)
 
-    pub search-passed : i < length xs → test (start + i) (getD xs i 0) ≡ true
-        → firstFailing test (start + (i + 1)) (drop (i + 1) xs) ≡ firstFailing test (start + i) (drop i xs)
-    search-passed h e =
-        rw (drop-cons xs i 0 h, first-passed (start + i) (getD xs i 0) (drop (suc i) xs) e, add-one i, add-suc start i)
+    pub search-passed : i < length xs → test place (getD xs i 0) ≡ true
+        → firstFailing test (place + 1) (drop (i + 1) xs) ≡ firstFailing test place (drop i xs)
+    search-passed h e = rw (drop-cons xs i 0 h, first-passed place (getD xs i 0) (drop (suc i) xs) e, add-one i, add-one place)
 
-    pub search-over : length xs ≤ i → firstFailing test (start + i) (drop i xs) ≡ start + i
+    pub search-over : length xs ≤ i → firstFailing test place (drop i xs) ≡ place
     unfolding firstFailing
     search-over h = rw (drop-of-length-le xs h)
 

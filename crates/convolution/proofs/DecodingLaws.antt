@@ -2,13 +2,12 @@
 use mathlib.Core.Path.{_≡_, refl, sym, ap, _∙_}
 use Prim.Native.Nat.{ℕ, zero, suc, _+_, _%_, _^_, _<_}
 use native.Mathlib.Omega.{arith}
-use mathlib.Core.Bool.{true, false, cond}
 use mathlib.Core.List.{List, [], _∷_, _++_}
 use lib.Dec.{eqb}
 use lib.ListN.{getD, drop, replicate}
 use borrow.Author.Tests.{eq-eqb, ne-eqb}
 use Rattle.basics.proofs.Choice.{by-test}
-use Rattle.radix.specs.Numeral.{Digits, count, numberOf}
+use Rattle.radix.specs.Numeral.{Digits, numberOf}
 use Rattle.radix.proofs.Laws.{number-below, numberOf-digitsOf}
 use Rattle.convolution.specs.Code.{bitsOf, clockedBits, clocked, firstMask, parity, codedFrom, codedBits}
 use Rattle.convolution.specs.Decoding.{nextBit, decodedFrom, decodedWord}

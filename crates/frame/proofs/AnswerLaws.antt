@@ -2,11 +2,11 @@
 use mathlib.Core.Path.{_≡_, refl, sym, ap, _∙_}
 use Prim.Native.Nat.{ℕ, _^_, _≤_, _<_}
 use native.Mathlib.Omega.{arith}
-use mathlib.Core.Bool.{Bool, true, false, cond, not}
+use mathlib.Core.Bool.{not}
 use mathlib.Core.List.{List}
 use lib.Dec.{eqb, leb, ltb}
 use lib.ListN.{length}
-use borrow.Author.Tests.{not-false, le-leb, leb-false, lt-leb, lt-ltb, le-ltb, ltb-false, eq-eqb, ne-eqb, eqb-true}
+use borrow.Author.Tests.{not-false, le-leb, leb-false, lt-leb, lt-ltb, le-ltb, eq-eqb, ne-eqb, eqb-true}
 use Rattle.basics.specs.Lists.{sameList}
 use Rattle.basics.proofs.Choice.{cond-passed, cond-held, by-test}
 use Rattle.basics.proofs.ListLaws.{sameList-equal, sameList-itself}
@@ -62,9 +62,22 @@ module _ (callsign locator : List ℕ) (power : ℕ) (frame : List ℕ) where
   unfolding messageWritten
   message-length other = rw (ne-eqb _ _ other)
 
-  pub message-packed : length frame ≡ 162 → messageWritten callsign locator power frame ≡ writtenAs (packed callsign locator power)
+  message-packed : length frame ≡ 162 → messageWritten callsign locator power frame ≡ writtenAs (packed callsign locator power)
   unfolding messageWritten
   message-packed e = rw (eq-eqb _ _ e)
+
+  -- A message that is packed is written, and its word's frame is what the lent frame then holds.
+  pub message-done : (word : ℕ) → length frame ≡ 162 → packed callsign locator power ≡ Packed.Word word
+      → (messageWritten callsign locator power frame ≡ Written.Done) × (frameAfterMessage callsign locator power frame ≡ frameOf word)
+  unfolding writtenAs frameAfterMessage frameAfter
+  message-done word right made =
+      let done : messageWritten callsign locator power frame ≡ Written.Done = message-packed right ∙ ap writtenAs made in
+      (done, rw (done, legal-of-packed callsign locator power word made .1))
+
+  pub message-refused : (f : Refusal) → length frame ≡ 162 → packed callsign locator power ≡ Packed.Refused f
+      → messageWritten callsign locator power frame ≡ Written.Refused f
+  unfolding writtenAs
+  message-refused f right refused = message-packed right ∙ ap writtenAs refused
 
   pub done-of-message : messageWritten callsign locator power frame ≡ Written.Done
       → (length frame ≡ 162) × (packed callsign locator power ≡ Packed.Word (wordOf callsign locator power))

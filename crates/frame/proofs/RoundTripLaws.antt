@@ -1,8 +1,7 @@
 -- The round trips, and that each reader refuses exactly what its matching writer never makes (demand 2), of the definitions of the answers.
-use mathlib.Core.Path.{_≡_, refl, sym, ap, _∙_, subst}
+use mathlib.Core.Path.{_≡_, refl, sym, _∙_, subst}
 use Prim.Native.Nat.{ℕ, _^_, _<_}
-use mathlib.Core.Logic.{_↔_}
-use mathlib.Core.Bool.{true, not}
+use mathlib.Core.Bool.{not}
 use native.Mathlib.Omega.{arith}
 use mathlib.Core.List.{List}
 use lib.ListN.{length}
@@ -10,23 +9,22 @@ use Rattle.basics.specs.Lists.{sameList}
 use Rattle.basics.proofs.Choice.{cond-passed, by-test}
 use Rattle.basics.proofs.ListLaws.{sameList-equal}
 use Rattle.refusal.specs.declared.Refusal.{Refusal}
-use Rattle.refusal.specs.Refusals.{refusal, noWord}
-use Rattle.message.specs.Answer.{rightLengths, packed, wordAnswer, unpacked, callsignAfter, locatorAfter, contentAfter}
+use Rattle.message.specs.Answer.{rightLengths, packed, unpacked, callsignAfter, locatorAfter, contentAfter}
 use Rattle.message.specs.Word.{wordOf, callsignOf, locatorOf}
 use Rattle.message.specs.RoundTrip.{IsRefused}
 use Rattle.message.specs.declared.Packed.{Packed}
 use Rattle.message.specs.declared.Unpacked.{Unpacked}
-use Rattle.message.proofs.AnswerLaws.{right-lengths, unpacked-read, legal-of-packed}
-use Rattle.message.proofs.RoundTripLaws.{unpack-pack, pack-unpack, refuses-exactly}
+use Rattle.message.proofs.AnswerLaws.{right-lengths, unpacked-read}
+use Rattle.message.proofs.RoundTripLaws.{unpack-pack, pack-unpack}
 use Rattle.convolution.specs.Decoding.{decodedWord}
 use Rattle.convolution.proofs.DecodingLaws.{decodedWord-below}
 use Rattle.frame.specs.Symbols.{frameOf, receivedBits}
-use Rattle.frame.specs.Answer.{wordWritten, messageWritten, writtenAs, frameAfterWord, frameAfterMessage, wordOfData, wordRead, messageFrom, callsignFrom, locatorFrom, messageRead, callsignRead, locatorRead}
-use Rattle.frame.specs.RoundTrip.{ReadsAsWord, WordReadsBack, WordWritesBack, NeverFromWord, ReadRefused, WordRefusedExactly, RightForm, NoWordRefused, ReadsAsMessage, MessageReadsBack, WritesAs, MessageWritesBack, NeverFromMessage, MessageRefusedExactly}
+use Rattle.frame.specs.Answer.{wordWritten, messageWritten, frameAfter, frameAfterWord, frameAfterMessage, wordOfData, wordRead, messageFrom, callsignFrom, locatorFrom, messageRead, callsignRead, locatorRead}
+use Rattle.frame.specs.RoundTrip.{WordReadsBack, WordWritesBack, NeverFromWord, ReadRefused, WordRefusedExactly, NoWordRefused, ReadsAsMessage, MessageReadsBack, WritesAs, MessageWritesBack, NeverFromMessage, MessageRefusedExactly}
 use Rattle.frame.specs.declared.Written.{Written}
 use Rattle.frame.specs.declared.Read.{Read}
 use Rattle.frame.proofs.SymbolLaws.{length-frameOf, frameOf-injective}
-use Rattle.frame.proofs.AnswerLaws.{written-done, done-of-word, after-word-done, message-packed, done-of-message, after-message-done, word-of-read, read-frameOf, read-form}
+use Rattle.frame.proofs.AnswerLaws.{written-done, done-of-word, after-word-done, message-done, done-of-message, after-message-done, word-of-read, read-frameOf, read-form}
 
 -- ---- A word and its frame
 
@@ -71,11 +69,11 @@ unfolding wordOfData
 no-word-refused frame form = (
   λ e word h same. word-not-refused frame word h same (subst ReadRefused (sym e) tt),
   λ none.
-    let word = decodedWord (receivedBits frame) in
-    read-form frame form
-    ∙ by-test (sameList (frameOf word) frame)
-    (λ t. absurd (none word (decodedWord-below (receivedBits frame)) (sameList-equal _ _ t)))
-    (λ t. rw t),
+      let word = decodedWord (receivedBits frame) in
+      read-form frame form
+      ∙ by-test (sameList (frameOf word) frame)
+      (λ t. absurd (none word (decodedWord-below (receivedBits frame)) (sameList-equal _ _ t)))
+      (λ t. rw t),
 )
 
 -- ---- A message and its frame
@@ -104,11 +102,9 @@ message-reads-back callsign locator power frame = go (messageWritten callsign lo
 -- A message with this word writes its frame.
 writes-as : (callsign locator : List ℕ) (power word : ℕ) (frame : List ℕ) → packed callsign locator power ≡ Packed.Word word
     → frameOf word ≡ frame → WritesAs callsign locator power frame
-unfolding writtenAs
 writes-as callsign locator power word frame made same before right =
-    let done : messageWritten callsign locator power before ≡ Written.Done = message-packed callsign locator power before right ∙ ap writtenAs made in
-    let its-word = legal-of-packed callsign locator power word made .1 in
-    (done, after-message-done callsign locator power before done ∙ ap frameOf (sym its-word) ∙ same)
+    let written = message-done callsign locator power before word right made in
+    (written .0, written .1 ∙ same)
 
 refused-not-power : (f : Refusal) (power : ℕ) → Unpacked.Refused f ≡ Unpacked.Power power → ⊥
 refused-not-power f power e = let z : _≡_ {A = ℕ} 0 1 = cc in omega arith
@@ -149,3 +145,71 @@ message-refused-exactly frame c l six four = (never, λ none. exact (messageRead
         let made = power-of-read frame c l p e (frameOf 0) (length-frameOf 0) in
         none (callsignRead frame c l) (locatorRead frame c l) p (frameOf 0) (made .0) (made .1)
     exact (Unpacked.Refused f) e none = tt
+
+-- ---- What each function promises, from its answer and what the lent buffers then hold
+
+module _ (frame : List ℕ) (word : ℕ) where
+  abbrev pub WriteWordPromised : Written → List ℕ → Type 0
+  WriteWordPromised answer content =
+      (answer ≡ wordWritten frame word) × ((content ≡ frameAfterWord frame word) × WordReadsBack answer word content)
+
+  pub write-word-promised : (answer : Written) (content : List ℕ) → answer ≡ wordWritten frame word → content ≡ frameAfterWord frame word
+      → WriteWordPromised answer content
+  write-word-promised answer content e e₂ = (e, (e₂, rw (e, e₂) (word-reads-back frame word)))
+
+  pub write-word-refused : (f : Refusal) → wordWritten frame word ≡ Written.Refused f → WriteWordPromised (Written.Refused f) frame
+  unfolding frameAfterWord frameAfter
+  write-word-refused f e = write-word-promised (Written.Refused f) frame (sym e) (rw e)
+
+module _ (callsign locator : List ℕ) (power : ℕ) (frame : List ℕ) where
+  abbrev pub WriteMessagePromised : Written → List ℕ → Type 0
+  WriteMessagePromised answer content =
+      (answer ≡ messageWritten callsign locator power frame)
+      × ((content ≡ frameAfterMessage callsign locator power frame) × MessageReadsBack answer callsign locator power content)
+
+  pub write-message-promised : (answer : Written) (content : List ℕ) → answer ≡ messageWritten callsign locator power frame
+      → content ≡ frameAfterMessage callsign locator power frame → WriteMessagePromised answer content
+  write-message-promised answer content e e₂ = (e, (e₂, rw (e, e₂) (message-reads-back callsign locator power frame)))
+
+  pub write-message-refused : (f : Refusal) → messageWritten callsign locator power frame ≡ Written.Refused f
+      → WriteMessagePromised (Written.Refused f) frame
+  unfolding frameAfterMessage frameAfter
+  write-message-refused f e = write-message-promised (Written.Refused f) frame (sym e) (rw e)
+
+module _ (frame : List ℕ) where
+  abbrev pub ReadWordPromised : Read → Type 0
+  ReadWordPromised answer =
+      (answer ≡ wordRead frame) × (WordWritesBack answer frame × (WordRefusedExactly answer frame × NoWordRefused answer frame))
+
+  pub read-word-promised : (answer : Read) → wordRead frame ≡ answer → ReadWordPromised answer
+  read-word-promised answer e =
+      subst ReadWordPromised e (refl, (word-writes-back frame, (word-refused-exactly frame, no-word-refused frame)))
+
+module _ (frame callsign locator : List ℕ) where
+  abbrev pub ReadMessagePromised : Unpacked → List ℕ → List ℕ → Type 0
+  ReadMessagePromised answer its-callsign its-locator =
+      (answer ≡ messageRead frame callsign locator)
+      × ((its-callsign ≡ callsignRead frame callsign locator)
+      × ((its-locator ≡ locatorRead frame callsign locator)
+      × (MessageWritesBack answer frame its-callsign its-locator × MessageRefusedExactly answer frame callsign locator)))
+
+  pub read-message-promised : (answer : Unpacked) (its-callsign its-locator : List ℕ) → answer ≡ messageRead frame callsign locator
+      → its-callsign ≡ callsignRead frame callsign locator → its-locator ≡ locatorRead frame callsign locator
+      → ReadMessagePromised answer its-callsign its-locator
+  read-message-promised answer its-callsign its-locator e e₂ e₃ =
+      let back : MessageWritesBack answer frame its-callsign its-locator = rw (e, e₂, e₃) (message-writes-back frame callsign locator) in
+      let exactly : MessageRefusedExactly answer frame callsign locator = rw e (message-refused-exactly frame callsign locator) in
+      (e, (e₂, (e₃, (back, exactly))))
+
+  -- The first refusal is the one returned.
+  pub read-message-refused : (f : Refusal) → wordRead frame ≡ Read.Refused f → ReadMessagePromised (Unpacked.Refused f) callsign locator
+  unfolding messageRead callsignRead locatorRead messageFrom callsignFrom locatorFrom
+  read-message-refused f e = read-message-promised (Unpacked.Refused f) callsign locator (rw e) (rw e) (rw e)
+
+  -- A frame with a word is read as the word is.
+  pub read-message-word : (word : ℕ) (answer : Unpacked) (its-callsign its-locator : List ℕ) → wordRead frame ≡ Read.Word word
+      → answer ≡ unpacked callsign locator word → its-callsign ≡ callsignAfter callsign locator word
+      → its-locator ≡ locatorAfter callsign locator word → ReadMessagePromised answer its-callsign its-locator
+  unfolding messageRead callsignRead locatorRead messageFrom callsignFrom locatorFrom
+  read-message-word word answer its-callsign its-locator e e₂ e₃ e₄ =
+      read-message-promised answer its-callsign its-locator (rw e e₂) (rw e e₃) (rw e e₄)

@@ -2,12 +2,13 @@
 use mathlib.Core.Path.{_≡_, refl, sym, ap, _∙_}
 use Prim.Native.Nat.{ℕ, _+_, _*_, _/_, _%_, _^_, _≤_, _<_}
 use native.Mathlib.Omega.{arith}
+use mathlib.Core.Bool.{Bool}
 use mathlib.Core.List.{List}
 use lib.Dec.{eqb, leb, ltb}
-use lib.ListN.{length, getD}
+use lib.ListN.{length, getD, drop}
 use lib.Seq.{ext-getD}
 use borrow.Author.Tests.{ltb-true, leb-true, eqb-true, le-leb, eq-eqb}
-use Rattle.basics.specs.Lists.{tabulate}
+use Rattle.basics.specs.Lists.{firstFailing}
 use Rattle.basics.proofs.Tables.{every-at}
 use Rattle.basics.proofs.ListLaws.{length-tabulate, getD-tabulate, by-rule, passes-at, passes-each}
 use Rattle.convolution.specs.Code.{codedBits}
@@ -100,6 +101,19 @@ frame-by-data word frame form e =
     let whole : syncAt place + 2 * getD (codedBits word) (orderOf place) 0 ≡ getD frame place 0 = omega (arith, form .right-sync place within) in
     getD-frameOf word place within ∙ whole)
 
+-- ---- The searches for the first wrong symbol
+
+-- Before a turn: the first wrong place from here on is that of the whole frame.
+abbrev pub Searching : (ℕ → ℕ → Bool) → List ℕ → ℕ → Type 0
+Searching test frame place = (place ≤ length frame) × (firstFailing test place (drop place frame) ≡ firstFailing test 0 frame)
+
+-- A symbol is at most 3; its sync bit is right.
+abbrev pub small : ℕ → ℕ → Bool
+small place symbol = leb symbol 3
+
+abbrev pub synced : ℕ → ℕ → Bool
+synced place symbol = eqb (symbol % 2) (syncAt place)
+
 -- ---- The right form, by the first place that hasn't it
 
 module _ (frame : List ℕ) where
@@ -108,21 +122,21 @@ module _ (frame : List ℕ) where
   form-of-tests e large wrong =
       record {
         right-length = e;
-        symbols-to-3 = λ place h. leb-true _ _ (passes-at (λ place symbol. leb symbol 3) frame (rw e large) place (omega arith));
+        symbols-to-3 = λ place h. leb-true _ _ (passes-at small frame (rw e large) place (omega arith));
         right-sync =
-          λ place h. eqb-true _ _ (passes-at (λ place symbol. eqb (symbol % 2) (syncAt place)) frame (rw e wrong) place (omega arith));
+            λ place h. eqb-true _ _ (passes-at synced frame (rw e wrong) place (omega arith));
       }
 
   module _ (form : RightForm frame) where
     pub none-large : firstLarge frame ≡ 162
     unfolding firstLarge
     none-large =
-        passes-each (λ place symbol. leb symbol 3) frame (λ place h. le-leb _ _ (form .symbols-to-3 place (omega (arith, form .right-length))))
+        passes-each small frame (λ place h. le-leb _ _ (form .symbols-to-3 place (omega (arith, form .right-length))))
         ∙ form .right-length
 
     pub none-wrong : firstWrongSync frame ≡ 162
     unfolding firstWrongSync
     none-wrong =
-        passes-each (λ place symbol. eqb (symbol % 2) (syncAt place)) frame
+        passes-each synced frame
         (λ place h. eq-eqb _ _ (form .right-sync place (omega (arith, form .right-length))))
         ∙ form .right-length

@@ -3,15 +3,15 @@
 use mathlib.Core.Path.{_≡_, refl, sym, ap, _∙_}
 use Prim.Native.Nat.{ℕ, suc, _+_, _-_, _*_, _/_, _%_, _≤_, _<_}
 use native.Mathlib.Omega.{arith}
-use mathlib.Core.Bool.{Bool, true, false, cond, _&&_}
-use mathlib.Core.List.{List, [], _∷_, _++_}
+use mathlib.Core.Bool.{Bool, true, _&&_}
+use mathlib.Core.List.{List, [], _∷_}
 use lib.Bits.{bitAnd, bitOr}
 use lib.Dec.{eqb, ltb}
 use native.Mathlib.Numerals.{add-one}
 use lib.ListN.{length, getD, drop, set, replicate, length-drop, length-set}
 use lib.Seq.{getD-set-same, getD-set-other}
 use borrow.Author.Tests.{eqb-true, ltb-true, lt-ltb, le-ltb}
-use Rattle.basics.specs.Lists.{tabulate, firstFailing}
+use Rattle.basics.specs.Lists.{firstFailing}
 use Rattle.basics.proofs.Choice.{both-true, equal-or-not}
 use Rattle.basics.proofs.ListLaws.{length-tabulate, getD-tabulate, by-rule, rest-within, rest-head, rest-tail}
 use Rattle.basics.proofs.Filling.{Filling, fill-starts, fill-turn, fill-ends}
@@ -148,7 +148,7 @@ ordering-turn now i h turn =
     record {
       same = length-set now (placeOf i) i ∙ turn .same;
       done =
-        λ k below.
+          λ k below.
           equal-or-not k i
           (λ e. rw e (getD-set-same now (placeOf i) i 0 (omega (arith, turn .same, placeOf-below i h))))
           (λ other.

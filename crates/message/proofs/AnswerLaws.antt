@@ -8,7 +8,7 @@ use mathlib.Core.List.{List, _++_}
 use lib.Dec.{eqb, leb, ltb}
 use lib.ListN.{length}
 use borrow.Author.Tests.{not-false, le-leb, leb-false, ltb-false, lt-leb, lt-ltb, le-ltb, eqb-true, eq-eqb}
-use Rattle.basics.proofs.Choice.{both-true, both-false, cond-passed, cond-both, by-test, below-or-not}
+use Rattle.basics.proofs.Choice.{both-true, both-false, cond-passed, cond-both, below-or-not}
 use Rattle.refusal.specs.declared.Refusal.{Refusal}
 use Rattle.refusal.specs.Refusals.{refusal, wrongLength, badCharacter, badPower, wordTooLarge, badLocatorNumber, badPowerBits}
 use Rattle.message.specs.Character.{firstBad, legalAt}

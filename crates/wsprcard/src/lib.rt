@@ -110,7 +110,12 @@ pub extern "C" fn wspr_write_word(word: u64, frame: &mut [u8]) -> WsprWritten
 
 // Writes the frame of a message.
 #[no_mangle]
-pub extern "C" fn wspr_write_message(callsign: &[u8], locator: &[u8], power: u32, frame: &mut [u8]) -> WsprWritten
+pub extern "C" fn wspr_write_message(
+    callsign: &[u8],
+    locator: &[u8],
+    power: u32,
+    frame: &mut [u8],
+) -> WsprWritten
     ensures answer { λ r. ⌜ r ≡ writtenResult (messageWritten (now (callsign .entry)) (now (locator .entry)) power (now (frame .entry))) ⌝ }
     ensures frame_after { λ _. ⌜ now (frame .exit) ≡ frameAfterMessage (now (callsign .entry)) (now (locator .entry)) power (now (frame .entry)) ⌝ }
     ensures reads_back { λ r. ⌜ FrameReadsAsMessage r (now (callsign .entry)) (now (locator .entry)) power (now (frame .exit)) ⌝ }
@@ -141,7 +146,11 @@ pub extern "C" fn wspr_read_word(frame: &[u8]) -> WsprWord
 
 // The message of a frame: its callsign and locator are written, its power is returned.
 #[no_mangle]
-pub extern "C" fn wspr_read_message(frame: &[u8], callsign: &mut [u8], locator: &mut [u8]) -> WsprMessage
+pub extern "C" fn wspr_read_message(
+    frame: &[u8],
+    callsign: &mut [u8],
+    locator: &mut [u8],
+) -> WsprMessage
     ensures answer { λ r. ⌜ r ≡ messageResult (unpackedNumbers (messageRead (now (frame .entry)) (now (callsign .entry)) (now (locator .entry)))) ⌝ }
     ensures callsign_after { λ _. ⌜ now (callsign .exit) ≡ callsignRead (now (frame .entry)) (now (callsign .entry)) (now (locator .entry)) ⌝ }
     ensures locator_after { λ _. ⌜ now (locator .exit) ≡ locatorRead (now (frame .entry)) (now (callsign .entry)) (now (locator .entry)) ⌝ }

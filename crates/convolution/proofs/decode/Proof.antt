@@ -1,10 +1,8 @@
 -- `convolution::decode` meets its contract: each turn finds the bit of a step.
 -- The measure is the number of steps left.
 -- Assumes nothing.
-use mathlib.Core.Path.{sym, _∙_}
 use Prim.Native.Nat.{_+_, _-_, _*_, _^_, _<_}
 use native.Mathlib.Omega.{arith}
-use borrow.Author.Needs.{needs}
 use Rattle.convolution.proofs.DecodingLaws.{nextBit-below}
 use Rattle.convolution.proofs.Turns.{Decoding, decoding-fits, decoding-starts, decoding-turn, decoding-ends}
 use Rattle.convolution.proofs.decode.Statement.{statement}

@@ -1,6 +1,5 @@
 -- `convolution::next_bit` meets its contract: the coded bit of a 0 is compared.
 -- Assumes nothing.
-use mathlib.Core.Path.{sym, _∙_}
 use Rattle.convolution.proofs.DecodingLaws.{nextBit-zero, nextBit-one}
 use native.Mathlib.Omega.{arith}
 use borrow.Author.Needs.{needs}

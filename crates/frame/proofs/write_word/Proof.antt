@@ -1,29 +1,35 @@
+-- `frame::write_word` meets its contract: one case of the answer's definition at each return; the rest follows from the definition's laws.
+-- Assumes nothing.
+use mathlib.Core.Path.{sym, _∙_}
+use native.Mathlib.Omega.{arith}
+use Rattle.frame.proofs.AnswerLaws.{written-length, written-large, written-done, after-word-done}
+use Rattle.frame.proofs.RoundTripLaws.{write-word-promised, write-word-refused}
 use borrow.Author.Needs.{needs}
 use Rattle.frame.proofs.write_word.Statement.{statement}
 use Rattle.frame.proofs.write_word.Tie as tie
-use Rattle.frame.proofs.write_word.Reads as reads
-use Rattle.frame.proofs.write_word.Lts as lts
-use Rattle.frame.proofs.symbols.write_symbols.Reads as write-symbols-reads
 
--- src/lib.rt:35:9
 returns : tie.Need-returns
-returns c = ?
+returns c =
+    let a = c .before .before .args in
+    write-word-refused (a .frame .now) (a .word) _ (written-length (a .frame .now) (a .word) (c .if1 .taken))
 
--- src/lib.rt:41:9
 returns-2 : tie.Need-returns-2
-returns-2 c = ?
+returns-2 c =
+    let a = c .before .before .before .args in
+    write-word-refused (a .frame .now) (a .word) _ (written-large (a .frame .now) (a .word) (omega arith) (omega arith))
 
--- src/lib.rt:46:5
 write-symbols-requires : tie.Need-write-symbols-requires
 write-symbols-requires c κs = search needs
 
--- src/lib.rt:29:1
 same-length : tie.Need-same-length
 same-length c = search needs
 
--- src/lib.rt:29:1
 returns-3 : tie.Need-returns-3
-returns-3 c = ?
+returns-3 c =
+    let w = c .before .before in
+    let a = w .before .before .before .before .before .args in
+    let done = written-done (a .frame .now) (a .word) (omega arith) (omega arith) in
+    write-word-promised (a .frame .now) (a .word) _ _ (sym done) (w .write-symbols .ensures ∙ sym (after-word-done (a .frame .now) (a .word) done))
 
 pub write-word-spec : {M : Type 1} → statement M
 write-word-spec =

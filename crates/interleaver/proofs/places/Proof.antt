@@ -1,11 +1,9 @@
 -- `interleaver::places` meets its contract: each turn writes the place of an address that has one.
 -- The measure is the number of addresses left.
 -- Assumes nothing.
-use mathlib.Core.Path.{_∙_, subst}
 use mathlib.Core.Logic.{⊎-elim}
-use Prim.Native.Nat.{ℕ, _+_, _-_}
+use Prim.Native.Nat.{_-_}
 use native.Mathlib.Omega.{arith}
-use mathlib.Core.List.{List}
 use borrow.Author.Needs.{needs}
 use borrow.Author.Tests.{lt-ltb, le-ltb}
 use Rattle.interleaver.proofs.PlaceLaws.{Placing, placing-starts, placing-counter, placing-room, placing-placed, placing-passed, placing-ends}

@@ -1,41 +1,53 @@
+-- `frame::symbols::first_large` meets its contract: it looks for the first place whose symbol is above 3.
+-- The measure is what is left of the frame.
+-- Assumes nothing.
+use mathlib.Core.Path.{refl, sym, _∙_}
+use Prim.Native.Nat.{_-_}
+use native.Mathlib.Omega.{arith}
+use lib.ListN.{length, getD}
+use borrow.Author.Tests.{le-leb, lt-leb}
+use Rattle.basics.proofs.ListLaws.{search-failed, search-passed, search-over}
+use Rattle.frame.specs.Answer.{firstLarge}
+use Rattle.frame.proofs.SymbolLaws.{Searching, small}
 use Rattle.frame.proofs.symbols.first_large.Statement.{statement}
 use Rattle.frame.proofs.symbols.first_large.Tie as tie
-use Rattle.frame.proofs.symbols.first_large.Reads as reads
-use Rattle.frame.proofs.symbols.first_large.Lts as lts
 
 abbrev Inv-loop : tie.InvT-loop
-Inv-loop frame place₀ place = ?
+Inv-loop frame place₀ place = Searching small frame place
 
 abbrev μ-loop : tie.MeasureT-loop
-μ-loop frame place₀ place = ?
+μ-loop frame place₀ place = length frame - place
 
--- src/symbols.rt:204:5
 loop-holds : tie.Need-loop-holds Inv-loop μ-loop
-loop-holds c = ?
+loop-holds c = (omega arith, refl)
 
--- src/symbols.rt:205:16
 shared-slice-read-if1 : tie.Need-shared-slice-read-if1 Inv-loop μ-loop
-shared-slice-read-if1 c = ?
+shared-slice-read-if1 c = omega arith
 
--- src/symbols.rt:206:13
 returns : tie.Need-returns Inv-loop μ-loop
-returns c = ?
+unfolding firstLarge
+returns c =
+    let l = c .before .before .before in
+    let frame = l .before .args .frame .now in
+    sym (search-failed small frame (l .loop .place) (l .loop .place) (omega arith) (lt-leb (getD frame (l .loop .place) 0) 3 (omega arith))) ∙ l .loop .inv .1
 
--- src/symbols.rt:208:9
 add-place : tie.Need-add-place Inv-loop μ-loop
-add-place c = ?
+add-place c = omega arith
 
--- src/symbols.rt:204:5
 loop-less : tie.Need-loop-less Inv-loop μ-loop
-loop-less c = ?
+loop-less c = omega arith
 
--- src/symbols.rt:204:5
 loop-again : tie.Need-loop-again Inv-loop μ-loop
-loop-again c = ?
+loop-again c =
+    let l = c .before .before .before in
+    let frame = l .before .args .frame .now in
+    (omega arith, search-passed small frame (l .loop .place) (l .loop .place) (omega arith) (le-leb (getD frame (l .loop .place) 0) 3 (omega arith)) ∙ l .loop .inv .1)
 
--- src/symbols.rt:200:1
 returns-2 : tie.Need-returns-2 Inv-loop μ-loop
-returns-2 c = ?
+unfolding firstLarge
+returns-2 c =
+    let l = c .before in
+    sym (search-over small (l .before .args .frame .now) (l .loop .place) (l .loop .place) (omega arith)) ∙ l .loop .inv .1
 
 pub first-large-spec : {M : Type 1} → statement M
 first-large-spec =

@@ -1,46 +1,58 @@
+-- `frame::symbols::first_wrong_sync` meets its contract: it looks for the first place whose sync bit is wrong.
+-- The measure is what is left of the frame.
+-- Assumes nothing.
+use mathlib.Core.Path.{refl, sym, _∙_}
+use Prim.Native.Nat.{_-_}
+use native.Mathlib.Omega.{arith}
+use lib.ListN.{length}
+use borrow.Author.Tests.{eq-eqb, ne-eqb}
+use Rattle.basics.proofs.ListLaws.{search-failed, search-passed, search-over}
+use Rattle.frame.specs.Answer.{firstWrongSync}
+use Rattle.frame.proofs.SymbolLaws.{Searching, synced}
 use Rattle.frame.proofs.symbols.first_wrong_sync.Statement.{statement}
 use Rattle.frame.proofs.symbols.first_wrong_sync.Tie as tie
-use Rattle.frame.proofs.symbols.first_wrong_sync.Reads as reads
-use Rattle.frame.proofs.symbols.first_wrong_sync.Lts as lts
-use Rattle.frame.proofs.symbols.sync_at.Reads as sync-at-reads
 
 abbrev Inv-loop : tie.InvT-loop
-Inv-loop frame place₀ place = ?
+Inv-loop frame place₀ place = Searching synced frame place
 
 abbrev μ-loop : tie.MeasureT-loop
-μ-loop frame place₀ place = ?
+μ-loop frame place₀ place = length frame - place
 
--- src/symbols.rt:219:5
 loop-holds : tie.Need-loop-holds Inv-loop μ-loop
-loop-holds c = ?
+loop-holds c = (omega arith, refl)
 
--- src/symbols.rt:220:12
 shared-slice-read-if1 : tie.Need-shared-slice-read-if1 Inv-loop μ-loop
-shared-slice-read-if1 c = ?
+shared-slice-read-if1 c = omega arith
 
--- src/symbols.rt:220:32
 sync-at-requires : tie.Need-sync-at-requires Inv-loop μ-loop
-sync-at-requires c κs = ?
+sync-at-requires c κs = omega arith
 
--- src/symbols.rt:221:13
 returns : tie.Need-returns Inv-loop μ-loop
-returns c = ?
+unfolding firstWrongSync
+returns c =
+    let l = c .before .before .before .before in
+    let frame = l .before .before .args .frame .now in
+    let wrong = ne-eqb _ _ (λ e. c .if1 .taken (e ∙ sym (c .before .sync-at .ensures))) in
+    sym (search-failed synced frame (l .loop .place) (l .loop .place) (omega arith) wrong) ∙ l .loop .inv .1
 
--- src/symbols.rt:223:9
 add-place : tie.Need-add-place Inv-loop μ-loop
-add-place c = ?
+add-place c = omega arith
 
--- src/symbols.rt:219:5
 loop-less : tie.Need-loop-less Inv-loop μ-loop
-loop-less c = ?
+loop-less c = omega arith
 
--- src/symbols.rt:219:5
 loop-again : tie.Need-loop-again Inv-loop μ-loop
-loop-again c = ?
+loop-again c =
+    let l = c .before .before .before .before in
+    let frame = l .before .before .args .frame .now in
+    let right = eq-eqb _ _ (c .if1 .left ∙ c .before .sync-at .ensures) in
+    (omega arith, search-passed synced frame (l .loop .place) (l .loop .place) (omega arith) right ∙ l .loop .inv .1)
 
--- src/symbols.rt:214:1
 returns-2 : tie.Need-returns-2 Inv-loop μ-loop
-returns-2 c = ?
+unfolding firstWrongSync
+returns-2 c =
+    let l = c .before in
+    sym (search-over synced (l .before .before .args .frame .now) (l .loop .place) (l .loop .place) (omega arith)) ∙ l .loop .inv .1
 
 pub first-wrong-sync-spec : {M : Type 1} → statement M
 first-wrong-sync-spec =

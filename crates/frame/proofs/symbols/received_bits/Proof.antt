@@ -1,59 +1,70 @@
+-- `frame::symbols::received_bits` meets its contract: each turn writes the data bit of a coded bit's place.
+-- The measure is the number of coded bits left.
+-- Assumes nothing.
+use mathlib.Core.Path.{_≡_, sym, ap, _∙_}
+use Prim.Native.Nat.{ℕ, _-_}
+use native.Mathlib.Omega.{arith}
+use mathlib.Core.List.{List}
+use lib.ListN.{getD}
+use borrow.Author.Needs.{needs}
+use Rattle.basics.proofs.Filling.{Filling, fill-starts, fill-turn, fill-ends}
+use Rattle.interleaver.specs.Places.{placeOf}
+use Rattle.interleaver.proofs.PlaceLaws.{getD-places, placeOf-below}
+use Rattle.frame.specs.Symbols.{receivedBits}
+use Rattle.frame.proofs.SymbolLaws.{length-receivedBits, getD-receivedBits}
 use Rattle.frame.proofs.symbols.received_bits.Statement.{statement}
 use Rattle.frame.proofs.symbols.received_bits.Tie as tie
-use Rattle.frame.proofs.symbols.received_bits.Reads as reads
-use Rattle.frame.proofs.symbols.received_bits.Lts as lts
-use Rattle.basics.proofs.zeros.Reads as zeros-reads
-use Rattle.interleaver.proofs.places.Reads as places-reads
 
 abbrev Inv-loop : tie.InvT-loop
-Inv-loop frame places received₀ i₀ received i = ?
+Inv-loop frame places received₀ i₀ received i = Filling (receivedBits frame) received i
 
 abbrev μ-loop : tie.MeasureT-loop
-μ-loop frame places received₀ i₀ received i = ?
+μ-loop frame places received₀ i₀ received i = 162 - i
 
--- src/symbols.rt:233:18
+-- What is read of the places is the coded bit's place.
+place-read : (c : tie.In-loop Inv-loop μ-loop) → getD (c .before .before .before .places .result) (c .before .loop .i) 0 ≡ placeOf (c .before .loop .i)
+place-read c = ap (λ (l : List ℕ). getD l (c .before .loop .i) 0) (c .before .before .before .places .ensures) ∙ getD-places (c .before .loop .i)
+
 places-requires : tie.Need-places-requires Inv-loop μ-loop
-places-requires c κs = ?
+places-requires c κs = search needs
 
--- src/symbols.rt:234:24
 zeros-requires : tie.Need-zeros-requires Inv-loop μ-loop
-zeros-requires c κs = ?
+zeros-requires c κs = search needs
 
--- src/symbols.rt:236:5
 loop-holds : tie.Need-loop-holds Inv-loop μ-loop
-loop-holds c = ?
+loop-holds c =
+    rw (c .zeros .ensures) (fill-starts _ _ (sym (length-receivedBits (c .before .before .before .args .frame .now))))
 
--- src/symbols.rt:237:29
 array-read-received : tie.Need-array-read-received Inv-loop μ-loop
-array-read-received c = ?
+array-read-received c = omega arith
 
--- src/symbols.rt:237:29
 cast-received : tie.Need-cast-received Inv-loop μ-loop
-cast-received c = ?
+cast-received c = omega (arith, place-read c, placeOf-below (c .before .loop .i) (omega arith))
 
--- src/symbols.rt:237:23
 shared-slice-read-received : tie.Need-shared-slice-read-received Inv-loop μ-loop
-shared-slice-read-received c = ?
+shared-slice-read-received c = omega (arith, place-read (c .before), placeOf-below (c .before .before .loop .i) (omega arith))
 
--- src/symbols.rt:237:9
 array-write-received : tie.Need-array-write-received Inv-loop μ-loop
-array-write-received c = ?
+array-write-received c = omega arith
 
--- src/symbols.rt:238:9
 add-i : tie.Need-add-i Inv-loop μ-loop
-add-i c = ?
+add-i c = omega arith
 
--- src/symbols.rt:236:5
 loop-less : tie.Need-loop-less Inv-loop μ-loop
-loop-less c = ?
+loop-less c = omega arith
 
--- src/symbols.rt:236:5
 loop-again : tie.Need-loop-again Inv-loop μ-loop
-loop-again c = ?
+loop-again c =
+    let l = c .before .before in
+    let frame = l .before .before .before .before .args .frame .now in
+    fill-turn (receivedBits frame) (l .loop .received) (l .loop .i) _ (omega (arith, length-receivedBits frame))
+    (rw (place-read (c .before)) (sym (getD-receivedBits frame (l .loop .i) (omega arith)))) (l .loop .inv)
 
--- src/symbols.rt:229:1
 returns : tie.Need-returns Inv-loop μ-loop
-returns c = ?
+returns c =
+    let l = c .before in
+    let frame = l .before .before .before .before .args .frame .now in
+    fill-ends (receivedBits frame) (l .loop .received) (l .loop .i) (omega (arith, length-receivedBits frame)) (l .loop .inv)
 
 pub received-bits-spec : {M : Type 1} → statement M
 received-bits-spec =

@@ -1,76 +1,108 @@
+-- `frame::symbols::write_symbols` meets its contract: each turn writes the symbol of a place.
+-- The measure is the number of places left.
+-- Assumes nothing.
+use mathlib.Core.Path.{_≡_, sym, ap, _∙_}
+use Prim.Native.Nat.{ℕ, _+_, _-_, _*_}
+use native.Mathlib.Omega.{arith}
+use mathlib.Core.List.{List}
+use lib.ListN.{getD}
+use borrow.Author.Needs.{needs}
+use Rattle.basics.proofs.Filling.{Filling, fill-starts, fill-turn, fill-ends}
+use Rattle.convolution.specs.Code.{codedBits}
+use Rattle.convolution.proofs.CodeLaws.{codedBits-below}
+use Rattle.interleaver.specs.Places.{orderOf}
+use Rattle.interleaver.proofs.PlaceLaws.{orderOf-below, getD-order}
+use Rattle.frame.specs.Symbols.{symbolAt, frameOf}
+use Rattle.frame.proofs.SymbolLaws.{sync-below, length-frameOf, getD-frameOf}
 use Rattle.frame.proofs.symbols.write_symbols.Statement.{statement}
 use Rattle.frame.proofs.symbols.write_symbols.Tie as tie
-use Rattle.frame.proofs.symbols.write_symbols.Reads as reads
-use Rattle.frame.proofs.symbols.write_symbols.Lts as lts
-use Rattle.convolution.proofs.encode.Reads as encode-reads
-use Rattle.frame.proofs.symbols.sync_at.Reads as sync-at-reads
-use Rattle.interleaver.proofs.order.Reads as order-reads
 
 abbrev Inv-loop : tie.InvT-loop
-Inv-loop word frame₀ coded order place₀ frame place = ?
+Inv-loop word frame₀ coded order place₀ frame place = Filling (frameOf word) frame place
 
 abbrev μ-loop : tie.MeasureT-loop
-μ-loop word frame₀ coded order place₀ frame place = ?
+μ-loop word frame₀ coded order place₀ frame place = 162 - place
 
--- src/symbols.rt:190:17
+-- What is read of the order is the index of the place's coded bit; what is read there is the bit; the sum is the symbol.
+index : (c : tie.After-sync-at Inv-loop μ-loop)
+    → getD (c .before .before .before .order .result) (c .before .before .loop .place) 0 ≡ orderOf (c .before .before .loop .place)
+index c =
+    let place = c .before .before .loop .place in
+    ap (λ (l : List ℕ). getD l place 0) (c .before .before .before .order .ensures) ∙ getD-order place (omega arith)
+
+bit : (c : tie.After-sync-at Inv-loop μ-loop)
+    → getD (c .before .before .before .before .encode .result) (getD (c .before .before .before .order .result) (c .before .before .loop .place) 0) 0
+    ≡ getD (codedBits (c .before .before .before .before .before .before .args .word)) (orderOf (c .before .before .loop .place)) 0
+bit c = rw (index c, c .before .before .before .before .encode .ensures)
+
+written : (c : tie.After-sync-at Inv-loop μ-loop)
+    → c .sync-at .result + 2 * getD (c .before .before .before .before .encode .result) (getD (c .before .before .before .order .result) (c .before .before .loop .place) 0) 0
+    ≡ getD (frameOf (c .before .before .before .before .before .before .args .word)) (c .before .before .loop .place) 0
+unfolding symbolAt
+written c =
+    let l = c .before .before in
+    rw (bit c, c .sync-at .ensures) (sym (getD-frameOf (l .before .before .before .before .args .word) (l .loop .place) (omega arith)))
+
 encode-requires : tie.Need-encode-requires Inv-loop μ-loop
-encode-requires c κs = ?
+encode-requires c κs = search needs
 
--- src/symbols.rt:191:17
 order-requires : tie.Need-order-requires Inv-loop μ-loop
-order-requires c κs = ?
+order-requires c κs = search needs
 
--- src/symbols.rt:193:5
 loop-holds : tie.Need-loop-holds Inv-loop μ-loop
-loop-holds c = ?
+loop-holds c =
+    let a = c .before .before .before .args in
+    fill-starts _ _ (omega (arith, length-frameOf (a .word)))
 
--- src/symbols.rt:194:24
 sync-at-requires : tie.Need-sync-at-requires Inv-loop μ-loop
-sync-at-requires c κs = ?
+sync-at-requires c κs = omega arith
 
--- src/symbols.rt:194:51
 array-read-frame : tie.Need-array-read-frame Inv-loop μ-loop
-array-read-frame c = ?
+array-read-frame c = omega arith
 
--- src/symbols.rt:194:51
 cast-frame : tie.Need-cast-frame Inv-loop μ-loop
-cast-frame c = ?
+cast-frame c = omega (arith, index c, orderOf-below (c .before .before .loop .place) (omega arith))
 
--- src/symbols.rt:194:45
 array-read-frame-2 : tie.Need-array-read-frame-2 Inv-loop μ-loop
-array-read-frame-2 c = ?
+array-read-frame-2 c = rw (index c) (orderOf-below (c .before .before .loop .place) (omega arith))
 
--- src/symbols.rt:194:41
 mul-frame : tie.Need-mul-frame Inv-loop μ-loop
-mul-frame c = ?
+mul-frame c =
+    omega (arith, bit c, codedBits-below (c .before .before .before .before .before .before .args .word) (orderOf (c .before .before .loop .place)))
 
--- src/symbols.rt:194:24
 add-frame : tie.Need-add-frame Inv-loop μ-loop
-add-frame c = ?
+add-frame c =
+    let l = c .before .before in
+    let word = l .before .before .before .before .args .word in
+    omega (arith, bit c, codedBits-below word (orderOf (l .loop .place)), c .sync-at .ensures, sync-below (l .loop .place))
 
--- src/symbols.rt:194:9
 slice-write-frame : tie.Need-slice-write-frame Inv-loop μ-loop
-slice-write-frame c = ?
+slice-write-frame c =
+    let l = c .before .before in
+    omega (arith, l .loop .inv .same, length-frameOf (l .before .before .before .before .args .word))
 
--- src/symbols.rt:195:9
 add-place : tie.Need-add-place Inv-loop μ-loop
-add-place c = ?
+add-place c = omega arith
 
--- src/symbols.rt:193:5
 loop-less : tie.Need-loop-less Inv-loop μ-loop
-loop-less c = ?
+loop-less c = omega arith
 
--- src/symbols.rt:193:5
 loop-again : tie.Need-loop-again Inv-loop μ-loop
-loop-again c = ?
+loop-again c =
+    let l = c .before .before in
+    let word = l .before .before .before .before .args .word in
+    fill-turn (frameOf word) (l .loop .frame) (l .loop .place) _ (omega (arith, length-frameOf word)) (written c) (l .loop .inv)
 
--- src/symbols.rt:186:1
 same-length : tie.Need-same-length Inv-loop μ-loop
-same-length c = ?
+same-length c =
+    let l = c .before in
+    omega (arith, l .loop .inv .same, length-frameOf (l .before .before .before .before .args .word))
 
--- src/symbols.rt:186:1
 returns : tie.Need-returns Inv-loop μ-loop
-returns c = ?
+returns c =
+    let l = c .before in
+    let word = l .before .before .before .before .args .word in
+    fill-ends (frameOf word) (l .loop .frame) (l .loop .place) (omega (arith, length-frameOf word)) (l .loop .inv)
 
 pub write-symbols-spec : {M : Type 1} → statement M
 write-symbols-spec =
