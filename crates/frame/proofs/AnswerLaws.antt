@@ -8,19 +8,20 @@ use lib.Dec.{eqb, leb, ltb}
 use lib.ListN.{length}
 use borrow.Author.Tests.{not-false, le-leb, leb-false, lt-leb, lt-ltb, le-ltb, eq-eqb, ne-eqb, eqb-true}
 use Rattle.basics.specs.Lists.{sameList}
-use Rattle.basics.proofs.Choice.{cond-passed, cond-held, by-test}
+use Rattle.basics.proofs.Choice.{cond-passed, cond-held, cond-both, by-test}
 use Rattle.basics.proofs.ListLaws.{sameList-equal, sameList-itself}
 use Rattle.refusal.specs.declared.Refusal.{Refusal}
 use Rattle.refusal.specs.Refusals.{refusal, wrongLength, wordTooLarge, symbolTooLarge, wrongSync, noWord}
-use Rattle.message.specs.Answer.{packed}
+use Rattle.message.specs.Answer.{packed, packedNumbers, unpackedNumbers}
 use Rattle.message.specs.Word.{wordOf}
 use Rattle.message.specs.declared.Packed.{Packed}
-use Rattle.message.proofs.AnswerLaws.{legal-of-packed}
+use Rattle.message.specs.declared.Unpacked.{Unpacked}
+use Rattle.message.proofs.AnswerLaws.{legal-of-packed, refused-no-word, packed-answered, unpacked-answered}
 use Rattle.convolution.specs.Code.{codedBits}
 use Rattle.convolution.specs.Decoding.{decodedWord}
 use Rattle.convolution.proofs.DecodingLaws.{decodedWord-below}
 use Rattle.frame.specs.Symbols.{frameOf, receivedBits}
-use Rattle.frame.specs.Answer.{wordWritten, writtenAs, messageWritten, frameAfter, frameAfterWord, frameAfterMessage, firstLarge, firstWrongSync, wordOfData, wordRead}
+use Rattle.frame.specs.Answer.{wordWritten, writtenAs, messageWritten, frameAfter, frameAfterWord, frameAfterMessage, firstLarge, firstWrongSync, wordOfData, wordRead, messageFrom, messageRead, writtenRefusal, readNumbers}
 use Rattle.frame.specs.RoundTrip.{RightForm}
 use Rattle.frame.specs.declared.Written.{Written}
 use Rattle.frame.specs.declared.Read.{Read}
@@ -155,3 +156,54 @@ pub read-frameOf : (word : ℕ) → word < 2 ^ 50 → wordRead (frameOf word) �
 read-frameOf word h =
     read-form (frameOf word) (frame-right-form word)
     ∙ data-word (frameOf word) (frame-right-form word) word (sym (decoded-frameOf word h)) (sym (received-frameOf word))
+
+-- ---- The refusal number 0 is that of the answers that are no refusal
+
+pub written-answered : (frame : List ℕ) (word : ℕ) → writtenRefusal (wordWritten frame word) .number ≡ 0 → wordWritten frame word ≡ Written.Done
+unfolding wordWritten writtenRefusal
+written-answered frame word =
+    let P : Written → Type 0 = λ a. writtenRefusal a .number ≡ 0 → a ≡ Written.Done in
+    cond-both P (not (eqb (length frame) 162)) (λ z. absurd (omega arith))
+    (cond-both P (leb (2 ^ 50) word) (λ z. absurd (omega arith)) (λ z. refl))
+
+pub message-answered : (callsign locator : List ℕ) (power : ℕ) (frame : List ℕ)
+    → writtenRefusal (messageWritten callsign locator power frame) .number ≡ 0 → messageWritten callsign locator power frame ≡ Written.Done
+unfolding messageWritten writtenRefusal writtenAs packedNumbers
+message-answered callsign locator power frame =
+    let P : Written → Type 0 = λ a. writtenRefusal a .number ≡ 0 → a ≡ Written.Done in
+    cond-both P (not (eqb (length frame) 162)) (λ z. absurd (omega arith)) (go (packed callsign locator power) (packed-answered callsign locator power))
+  where
+    go : (answer : Packed) → (packedNumbers answer .number ≡ 0 → answer ≡ Packed.Word (packedNumbers answer .word))
+        → writtenRefusal (writtenAs answer) .number ≡ 0 → writtenAs answer ≡ Written.Done
+    go (Packed.Word w) numbered z = refl
+    go (Packed.Refused f) numbered z = absurd (refused-no-word f _ (numbered z))
+
+pub read-answered : (frame : List ℕ) → readNumbers (wordRead frame) .number ≡ 0 → wordRead frame ≡ Read.Word (readNumbers (wordRead frame) .word)
+unfolding wordRead wordOfData readNumbers
+read-answered frame =
+    let P : Read → Type 0 = λ a. readNumbers a .number ≡ 0 → a ≡ Read.Word (readNumbers a .word) in
+    cond-both P (not (eqb (length frame) 162)) (λ z. absurd (omega arith))
+    (cond-both P (ltb (firstLarge frame) 162) (λ z. absurd (omega arith))
+    (cond-both P (ltb (firstWrongSync frame) 162) (λ z. absurd (omega arith))
+    (cond-both P (sameList (frameOf (decodedWord (receivedBits frame))) frame) (λ z. refl) (λ z. absurd (omega arith)))))
+
+-- The refusal number 9 is that of one answer only.
+pub read-none : (frame : List ℕ) → readNumbers (wordRead frame) .number ≡ noWord → wordRead frame ≡ Read.Refused (refusal noWord 0)
+unfolding wordRead wordOfData readNumbers
+read-none frame =
+    let P : Read → Type 0 = λ a. readNumbers a .number ≡ noWord → a ≡ Read.Refused (refusal noWord 0) in
+    cond-both P (not (eqb (length frame) 162)) (λ z. absurd (omega arith))
+    (cond-both P (ltb (firstLarge frame) 162) (λ z. absurd (omega arith))
+    (cond-both P (ltb (firstWrongSync frame) 162) (λ z. absurd (omega arith))
+    (cond-both P (sameList (frameOf (decodedWord (receivedBits frame))) frame) (λ z. absurd (omega arith)) (λ z. refl))))
+
+pub message-read-answered : (frame callsign locator : List ℕ) → unpackedNumbers (messageRead frame callsign locator) .number ≡ 0
+    → messageRead frame callsign locator ≡ Unpacked.Power (unpackedNumbers (messageRead frame callsign locator) .power)
+unfolding messageRead messageFrom readNumbers unpackedNumbers
+message-read-answered frame callsign locator = go (wordRead frame) (read-answered frame)
+  where
+    go : (answer : Read) → (readNumbers answer .number ≡ 0 → answer ≡ Read.Word (readNumbers answer .word))
+        → unpackedNumbers (messageFrom answer callsign locator) .number ≡ 0
+        → messageFrom answer callsign locator ≡ Unpacked.Power (unpackedNumbers (messageFrom answer callsign locator) .power)
+    go (Read.Word w) numbered z = unpacked-answered callsign locator w z
+    go (Read.Refused f) numbered z = absurd (refused-not-word f _ (numbered z))

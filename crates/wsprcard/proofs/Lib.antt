@@ -1,2 +1,3 @@
--- `MessageResults`: what the layer of messages promises, in the terms of the C interface.
+-- `MessageResults`, `FrameResults`: what the layers of messages and of frames promise, in the terms of the C interface.
 mod MessageResults
+mod FrameResults

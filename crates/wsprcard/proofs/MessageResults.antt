@@ -4,36 +4,36 @@ use mathlib.Core.Logic.{_↔_}
 use Prim.Native.Nat.{ℕ}
 use mathlib.Core.List.{List}
 use Rattle.message.specs.Answer.{packed, unpacked, callsignAfter, locatorAfter, packedNumbers, unpackedNumbers}
-use Rattle.message.specs.RoundTrip.{ReadsBack, PacksBack, IsRefused, RefusesExactly}
+use Rattle.message.specs.RoundTrip.{ReadsBack, PacksBack, IsRefused}
 use Rattle.message.specs.declared.Packed.{Packed}
 use Rattle.message.specs.declared.Unpacked.{Unpacked}
 use Rattle.message.proofs.AnswerLaws.{refused-no-word, packed-answered, unpacked-answered, refused-number}
+use Rattle.message.proofs.RoundTripLaws.{Promised}
 use Rattle.wsprcard.specs.Results.{wordResult, messageResult, WordReadsBack, MessagePacksBack, WordRefusedExactly}
+use Rattle.wsprcard.specs.declared.WsprMessage.{WsprMessage}
 
-pub word-promised : (callsign locator : List ℕ) (power : ℕ) (answer : Packed) → answer ≡ packed callsign locator power
+pub pack-results : (callsign locator : List ℕ) (power : ℕ) (answer : Packed) → answer ≡ packed callsign locator power
     → ReadsBack answer callsign locator power
-    → (wordResult answer ≡ wordResult (packed callsign locator power)) × WordReadsBack (wordResult answer) callsign locator power
+    → (wordResult (packedNumbers answer) ≡ wordResult (packedNumbers (packed callsign locator power)))
+    × WordReadsBack (wordResult (packedNumbers answer)) callsign locator power
 unfolding wordResult packedNumbers
-word-promised callsign locator power (Packed.Word w) e back = (ap wordResult e, λ z. back)
-word-promised callsign locator power (Packed.Refused f) e back = (ap wordResult e, λ z. absurd (refused-no-word _ _ (e ∙ packed-answered callsign locator power (rw e at z))))
+pack-results callsign locator power (Packed.Word w) e back = (ap (λ (a : Packed). wordResult (packedNumbers a)) e, λ z. back)
+pack-results callsign locator power (Packed.Refused f) e back =
+    (ap (λ (a : Packed). wordResult (packedNumbers a)) e, λ z. absurd (refused-no-word _ _ (e ∙ packed-answered callsign locator power (rw e at z))))
 
-pub message-promised : (callsign locator : List ℕ) (word : ℕ) (answer : Unpacked) (its-callsign its-locator : List ℕ)
-    → answer ≡ unpacked callsign locator word
-    → its-callsign ≡ callsignAfter callsign locator word
-    → its-locator ≡ locatorAfter callsign locator word
-    → PacksBack answer word its-callsign its-locator
-    → RefusesExactly answer word callsign locator
-    → (messageResult answer ≡ messageResult (unpacked callsign locator word))
+pub unpack-results : (callsign locator : List ℕ) (word : ℕ) (answer : Unpacked) (its-callsign its-locator : List ℕ) (r : WsprMessage)
+    → r ≡ messageResult (unpackedNumbers answer) → Promised callsign locator word answer its-callsign its-locator
+    → (r ≡ messageResult (unpackedNumbers (unpacked callsign locator word)))
     × ((its-callsign ≡ callsignAfter callsign locator word)
     × ((its-locator ≡ locatorAfter callsign locator word)
-    × (MessagePacksBack (messageResult answer) word its-callsign its-locator × WordRefusedExactly (messageResult answer) word callsign locator)))
+    × (MessagePacksBack r word its-callsign its-locator × WordRefusedExactly r word callsign locator)))
 unfolding messageResult
-message-promised callsign locator word answer its-callsign its-locator e call loc back exactly =
+unpack-results callsign locator word answer its-callsign its-locator r result (e, (call, (loc, (back, exactly)))) =
     let answered : unpackedNumbers answer .number ≡ 0 → answer ≡ Unpacked.Power (unpackedNumbers answer .power) =
     rw e (unpacked-answered callsign locator word) in
     let nonzero : IsRefused answer ↔ (unpackedNumbers answer .number ≡ 0 → ⊥) = rw e (refused-number callsign locator word) in
-    let packs : MessagePacksBack (messageResult answer) word its-callsign its-locator =
+    let packs : MessagePacksBack (messageResult (unpackedNumbers answer)) word its-callsign its-locator =
     λ z. subst (λ (a : Unpacked). PacksBack a word its-callsign its-locator) (answered z) back in
-    let refuses : WordRefusedExactly (messageResult answer) word callsign locator =
+    let refuses : WordRefusedExactly (messageResult (unpackedNumbers answer)) word callsign locator =
     λ six four. (λ n. exactly six four .0 (nonzero .1 n), λ never. nonzero .0 (exactly six four .1 never)) in
-    (ap messageResult e, (call, (loc, (packs, refuses))))
+    rw result (ap (λ (a : Unpacked). messageResult (unpackedNumbers a)) e, (call, (loc, (packs, refuses))))

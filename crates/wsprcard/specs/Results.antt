@@ -1,33 +1,31 @@
 -- The structs of the C interface for the answers of the layers, and what the calls promise of each other in their terms.
-use Prim.Native.Nat.{ℕ}
+use Prim.Native.Nat.{ℕ, _^_, _<_}
 use mathlib.Core.Path.{_≡_}
 use mathlib.Core.Logic.{_↔_}
 use mathlib.Core.List.{List}
 use lib.ListN.{length}
-use Rattle.message.specs.Answer.{packed, packedNumbers, unpackedNumbers}
+use Rattle.refusal.specs.Refusals.{noWord}
+use Rattle.message.specs.Answer.{packed, WordNumbers, PowerNumbers}
 use Rattle.message.specs.RoundTrip.{ReadsAs, NeverMade}
 use Rattle.message.specs.declared.Packed.{Packed}
-use Rattle.message.specs.declared.Unpacked.{Unpacked}
+use Rattle.frame.specs.Symbols.{frameOf}
+use Rattle.frame.specs.Answer.{writtenRefusal}
+use Rattle.frame.specs.RoundTrip.{ReadsAsWord, NeverFromWord, RightForm, ReadsAsMessage, WritesAs, NeverFromMessage}
+use Rattle.frame.specs.declared.Written.{Written}
+use Rattle.wsprcard.specs.declared.WsprWritten.{WsprWritten}
 use Rattle.wsprcard.specs.declared.WsprWord.{WsprWord}
 use Rattle.wsprcard.specs.declared.WsprMessage.{WsprMessage}
 
 -- ---- The answers' result numbers, as the layer's definition gives them, field by field
 
-unfoldable pub wordResult : Packed → WsprWord
-wordResult answer =
-    record {
-      refusal = packedNumbers answer .number;
-      place = packedNumbers answer .place;
-      word = packedNumbers answer .word;
-    }
+unfoldable pub writtenResult : Written → WsprWritten
+writtenResult answer = record { refusal = writtenRefusal answer .number; place = writtenRefusal answer .place }
 
-unfoldable pub messageResult : Unpacked → WsprMessage
-messageResult answer =
-    record {
-      refusal = unpackedNumbers answer .number;
-      place = unpackedNumbers answer .place;
-      power = unpackedNumbers answer .power;
-    }
+unfoldable pub wordResult : WordNumbers → WsprWord
+wordResult numbers = record { refusal = numbers .number; place = numbers .place; word = numbers .word }
+
+unfoldable pub messageResult : PowerNumbers → WsprMessage
+messageResult numbers = record { refusal = numbers .number; place = numbers .place; power = numbers .power }
 
 -- ---- What the calls promise of each other: a refusal number of 0 is success
 
@@ -42,3 +40,32 @@ MessagePacksBack r word callsign locator = r .refusal ≡ 0 → packed callsign 
 -- With a callsign of six bytes and a locator of four lent, the word is refused exactly where no message has it.
 abbrev pub WordRefusedExactly : WsprMessage → ℕ → List ℕ → List ℕ → Type 0
 WordRefusedExactly r word callsign locator = length callsign ≡ 6 → length locator ≡ 4 → (r .refusal ≡ 0 → ⊥) ↔ NeverMade word
+
+-- A frame that was written from a word reads back, and is no other word's.
+abbrev pub FrameReadsAsWord : WsprWritten → ℕ → List ℕ → Type 0
+FrameReadsAsWord r word frame = r .refusal ≡ 0 → ReadsAsWord frame word
+
+-- A frame that was written from a message reads back.
+abbrev pub FrameReadsAsMessage : WsprWritten → List ℕ → List ℕ → ℕ → List ℕ → Type 0
+FrameReadsAsMessage r callsign locator power frame = r .refusal ≡ 0 → ReadsAsMessage frame callsign locator power
+
+-- The word that was read has the frame.
+abbrev pub WordWritesFrame : WsprWord → List ℕ → Type 0
+WordWritesFrame r frame = r .refusal ≡ 0 → (r .word < 2 ^ 50) × (frameOf (r .word) ≡ frame)
+
+-- The frame is refused exactly where writing from a word never makes it.
+abbrev pub FrameRefusedExactly : WsprWord → List ℕ → Type 0
+FrameRefusedExactly r frame = (r .refusal ≡ 0 → ⊥) ↔ NeverFromWord frame
+
+-- Of frames of 162 symbols of 0 to 3 with the right sync bits, refusal 9 is given exactly where no 50-bit word has the frame.
+abbrev pub NoWordExactly : WsprWord → List ℕ → Type 0
+NoWordExactly r frame = RightForm frame → (r .refusal ≡ noWord) ↔ ((word : ℕ) → word < 2 ^ 50 → frameOf word ≡ frame → ⊥)
+
+-- The message that was read has the frame.
+abbrev pub MessageWritesFrame : WsprMessage → List ℕ → List ℕ → List ℕ → Type 0
+MessageWritesFrame r frame callsign locator = r .refusal ≡ 0 → WritesAs callsign locator (r .power) frame
+
+-- With a callsign of six bytes and a locator of four lent, the frame is refused exactly where writing from a message never makes it.
+abbrev pub MessageFrameRefusedExactly : WsprMessage → List ℕ → List ℕ → List ℕ → Type 0
+MessageFrameRefusedExactly r frame callsign locator =
+    length callsign ≡ 6 → length locator ≡ 4 → (r .refusal ≡ 0 → ⊥) ↔ NeverFromMessage frame

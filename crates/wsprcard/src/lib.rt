@@ -2,8 +2,8 @@
 // its crate, with the answer's result numbers in a struct.
 ghost use mathlib.Core.Path.{_≡_};
 ghost use Rattle.message.specs.Answer.{packed, unpacked, callsignAfter, locatorAfter, packedNumbers, unpackedNumbers};
-ghost use Rattle.frame.specs.Answer.{wordWritten, messageWritten, frameAfterWord, frameAfterMessage, wordRead, messageRead, callsignRead, locatorRead, writtenRefusal, readNumbers};
-ghost use Rattle.wsprcard.specs.Results.{writtenResult, wordResult, messageResult, WordReadsBack, MessagePacksBack, WordRefusedExactly, FrameReadsAsWord, FrameReadsAsMessage, WordWritesFrame, FrameRefusedExactly, MessageWritesFrame, MessageFrameRefusedExactly};
+ghost use Rattle.frame.specs.Answer.{wordWritten, messageWritten, frameAfterWord, frameAfterMessage, wordRead, messageRead, callsignRead, locatorRead, readNumbers};
+ghost use Rattle.wsprcard.specs.Results.{writtenResult, wordResult, messageResult, WordReadsBack, MessagePacksBack, WordRefusedExactly, FrameReadsAsWord, FrameReadsAsMessage, WordWritesFrame, FrameRefusedExactly, NoWordExactly, MessageWritesFrame, MessageFrameRefusedExactly};
 use frame::Read;
 use frame::Written;
 use message::Packed;
@@ -129,6 +129,7 @@ pub extern "C" fn wspr_read_word(frame: &[u8]) -> WsprWord
     ensures answer { λ r. ⌜ r ≡ wordResult (readNumbers (wordRead (now (frame .entry)))) ⌝ }
     ensures writes_back { λ r. ⌜ WordWritesFrame r (now (frame .entry)) ⌝ }
     ensures refuses_exactly { λ r. ⌜ FrameRefusedExactly r (now (frame .entry)) ⌝ }
+    ensures no_word { λ r. ⌜ NoWordExactly r (now (frame .entry)) ⌝ }
 {
     match frame::read_word(frame) {
         Read::Word(word) => WsprWord {

@@ -2,7 +2,7 @@
 -- Assumes nothing.
 use Rattle.message.specs.Answer.{packedNumbers}
 use Rattle.wsprcard.specs.Results.{wordResult}
-use Rattle.wsprcard.proofs.MessageResults.{word-promised}
+use Rattle.wsprcard.proofs.MessageResults.{pack-results}
 use borrow.Author.Needs.{needs}
 use Rattle.wsprcard.proofs.wspr_pack.Statement.{statement}
 use Rattle.wsprcard.proofs.wspr_pack.Tie as tie
@@ -21,14 +21,14 @@ unfolding wordResult packedNumbers
 returns c =
     let p = c .before .before .before in
     let a = p .before .before .before .args in
-    rw (c .before .word .given .1) at (word-promised (a .callsign .now) (a .locator .now) (a .power) (p .pack .result) (p .pack .ensures .0) (p .pack .ensures .1))
+    rw (c .before .word .given .1) at (pack-results (a .callsign .now) (a .locator .now) (a .power) (p .pack .result) (p .pack .ensures .0) (p .pack .ensures .1))
 
 returns-2 : tie.Need-returns-2
 unfolding wordResult packedNumbers
 returns-2 c =
     let p = c .before .before .before in
     let a = p .before .before .before .args in
-    rw (c .before .refusal .given .1) at (word-promised (a .callsign .now) (a .locator .now) (a .power) (p .pack .result) (p .pack .ensures .0) (p .pack .ensures .1))
+    rw (c .before .refusal .given .1) at (pack-results (a .callsign .now) (a .locator .now) (a .power) (p .pack .result) (p .pack .ensures .0) (p .pack .ensures .1))
 
 pub wspr-pack-spec : {M : Type 1} → statement M
 wspr-pack-spec =
