@@ -1,7 +1,7 @@
 -- The worked examples of 01's bench sheet that are marked P, as a table: what the definitions give, and what the sheet says.
 use Prim.Native.Nat.{ℕ}
 use Prim.Native.Char.{code}
-use Prim.Native.String.{String, [] as empty}
+use Prim.Native.String.{String, [] as empty, _∷_ as _∷ˢ_}
 use mathlib.Core.Path.{_≡_}
 use mathlib.Core.List.{List, [], _∷_}
 use Rattle.message.specs.Word.{callsignNumber, locatorNumber, lowerNumber}
