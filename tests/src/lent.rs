@@ -32,6 +32,15 @@ impl Lent {
         Lent { before: bytes.clone(), bytes, null: true }
     }
 
+    /// NULL with length 0, or else a buffer that holds `content`.
+    pub fn null_or_holding(rng: &mut Rng, null: bool, content: &[u8]) -> Lent {
+        if null {
+            Lent::null()
+        } else {
+            Lent::holding(rng, content)
+        }
+    }
+
     /// What is handed to the library. The pointer may reach the guard bytes too, so a write
     /// there is seen and not optimised away.
     pub fn pointer(&mut self) -> *mut u8 {

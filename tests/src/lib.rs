@@ -1,6 +1,10 @@
 // What the outside tests share: the library under test, an independent implementation to
-// compare it with, lent buffers that show every write, and a seeded generator.
+// compare it with, lent buffers that show every write, random inputs from a seeded generator,
+// and the vectors of WSJT-X.
+pub mod answers;
 pub mod card;
+pub mod inputs;
 pub mod lent;
 pub mod reference;
 pub mod rng;
+pub mod vectors;

@@ -1,18 +1,21 @@
 // Packing a message into the word and reading it back: the library against the independent
 // implementation, on legal, damaged and arbitrary inputs.
 use std::alloc::{alloc_zeroed, dealloc, Layout};
-use std::fs;
-use std::path::Path;
 use std::slice;
 
+use wsprcard_tests::answers::{message_answer, refused_message, refused_word, word_answer};
 use wsprcard_tests::card;
+use wsprcard_tests::inputs::{
+    bad_character, bad_low, bad_power, good_low, legal_bytes, random_characters, random_legal_word,
+    random_message, spoil,
+};
 use wsprcard_tests::lent::Lent;
 use wsprcard_tests::reference::message::{
     self as reference, Message, CALLSIGNS, CALLSIGN_LEN, CHARACTERS, LOCATORS, LOCATOR_LEN, POWERS,
     WORDS,
 };
-use wsprcard_tests::reference::Refusal;
 use wsprcard_tests::rng::Rng;
+use wsprcard_tests::vectors::{self, Vector};
 
 /// Compares the library with the reference, call by call, and counts the calls.
 struct Check {
@@ -93,29 +96,6 @@ impl Check {
     }
 }
 
-/// What the C interface is to return for an answer of the reference.
-fn word_answer(answer: Result<u64, Refusal>) -> card::Word {
-    match answer {
-        Ok(word) => card::Word { refusal: 0, place: 0, word },
-        Err(refusal) => refused_word(refusal.number, refusal.place),
-    }
-}
-
-fn message_answer(answer: Result<Message, Refusal>) -> card::Message {
-    match answer {
-        Ok(message) => card::Message { refusal: 0, place: 0, power: message.power },
-        Err(refusal) => refused_message(refusal.number, refusal.place),
-    }
-}
-
-fn refused_word(refusal: u32, place: u32) -> card::Word {
-    card::Word { refusal, place, word: 0 }
-}
-
-fn refused_message(refusal: u32, place: u32) -> card::Message {
-    card::Message { refusal, place, power: 0 }
-}
-
 /// The message that the library reads from a word it must accept.
 fn read_message(word: u64) -> Message {
     let (mut callsign, mut locator) = ([0; CALLSIGN_LEN], [0; LOCATOR_LEN]);
@@ -126,55 +106,6 @@ fn read_message(word: u64) -> Message {
 
 fn text(bytes: &[u8]) -> String {
     bytes.escape_ascii().to_string()
-}
-
-fn random_message(rng: &mut Rng) -> Message {
-    let characters = random_characters(rng);
-    Message {
-        callsign: characters[..6].try_into().unwrap(),
-        locator: characters[6..].try_into().unwrap(),
-        power: rng.pick(&POWERS),
-    }
-}
-
-fn random_characters(rng: &mut Rng) -> [u8; 10] {
-    CHARACTERS.map(|legal| rng.pick(legal))
-}
-
-fn bad_character(rng: &mut Rng, place: usize) -> u8 {
-    let mut character = rng.byte();
-    while CHARACTERS[place].contains(&character) {
-        character = rng.byte();
-    }
-    character
-}
-
-fn bad_power(rng: &mut Rng) -> u32 {
-    let near = rng.coin();
-    loop {
-        let power = if near { rng.below(70) as u32 } else { rng.number() as u32 };
-        if !POWERS.contains(&power) {
-            return power;
-        }
-    }
-}
-
-/// The low seven bits of a word when they aren't those of a legal power.
-fn bad_low(rng: &mut Rng) -> u64 {
-    loop {
-        let low = rng.below(128);
-        if low < 64 || !POWERS.contains(&(low as u32 - 64)) {
-            return low;
-        }
-    }
-}
-
-fn good_low(rng: &mut Rng) -> u64 {
-    u64::from(rng.pick(&POWERS)) + 64
-}
-
-fn random_legal_word(rng: &mut Rng) -> u64 {
-    reference::word_of(rng.below(CALLSIGNS), rng.below(LOCATORS), good_low(rng))
 }
 
 // The published values
@@ -210,31 +141,16 @@ fn the_bench_sheet_holds() {
     check.finish(13);
 }
 
-/// Lines of `callsign|locator|dBm|word in hex`, and further fields that don't matter here.
 #[test]
 fn words_are_those_of_wsjtx() {
-    let path = Path::new(env!("CARGO_MANIFEST_DIR")).join("../crates/wsjtx_vectors/stdin");
-    let vectors = fs::read_to_string(&path)
-        .unwrap_or_else(|error| panic!("the vectors at {}: {error}", path.display()));
     let mut check = Check::new(2);
-    for line in vectors.lines() {
-        let (message, word) = vector(line).unwrap_or_else(|| panic!("not a vector: {line}"));
+    for Vector { message, word, .. } in vectors::wsjtx() {
         let expected = card::Word { refusal: 0, place: 0, word };
-        assert_eq!(check.pack_message(&message), expected, "{line}");
+        assert_eq!(check.pack_message(&message), expected, "{message:?}");
         check.unpack(word);
-        assert_eq!(read_message(word), message, "{line}");
+        assert_eq!(read_message(word), message, "{word:#x}");
     }
     check.finish(2 * 39);
-}
-
-fn vector(line: &str) -> Option<(Message, u64)> {
-    let mut fields = line.split('|');
-    let message = Message {
-        callsign: fields.next()?.as_bytes().try_into().ok()?,
-        locator: fields.next()?.as_bytes().try_into().ok()?,
-        power: fields.next()?.parse().ok()?,
-    };
-    Some((message, u64::from_str_radix(fields.next()?, 16).ok()?))
 }
 
 // Packing
@@ -388,19 +304,6 @@ fn wrong_lengths_are_refused_before_all_else_in_packing() {
 
 fn lengths() -> impl Iterator<Item = usize> {
     (0..=12).chain([255])
-}
-
-/// Legal characters from this place on; past the field's end those of any place.
-fn legal_bytes(rng: &mut Rng, first_place: usize, len: usize) -> Vec<u8> {
-    (0..len).map(|index| rng.pick(CHARACTERS[(first_place + index) % 10])).collect()
-}
-
-/// Puts a character that is refused at one place of the field, if it has any.
-fn spoil(rng: &mut Rng, field: &mut [u8], first_place: usize) {
-    if !field.is_empty() {
-        let index = rng.below(field.len() as u64) as usize;
-        field[index] = bad_character(rng, (first_place + index) % 10);
-    }
 }
 
 #[test]
@@ -595,12 +498,12 @@ fn null_with_length_0_is_refused() {
             word = check.rng.number();
         }
         for (null_callsign, null_locator) in [(true, false), (false, true), (true, true)] {
-            let callsign = lent_or_null(&mut check.rng, null_callsign, &characters[..6]);
-            let locator = lent_or_null(&mut check.rng, null_locator, &characters[6..]);
+            let callsign = Lent::null_or_holding(&mut check.rng, null_callsign, &characters[..6]);
+            let locator = Lent::null_or_holding(&mut check.rng, null_locator, &characters[6..]);
             let found = check.pack_lent(callsign, locator, power);
             assert_eq!(found, refused_word(1, 0), "{null_callsign} {null_locator} {power}");
-            let callsign = lent_or_null(&mut check.rng, null_callsign, &characters[..6]);
-            let locator = lent_or_null(&mut check.rng, null_locator, &characters[6..]);
+            let callsign = Lent::null_or_holding(&mut check.rng, null_callsign, &characters[..6]);
+            let locator = Lent::null_or_holding(&mut check.rng, null_locator, &characters[6..]);
             let found = check.unpack_lent(word, callsign, locator);
             assert_eq!(found, refused_message(1, 0), "{null_callsign} {null_locator} {word:#x}");
         }
@@ -613,14 +516,6 @@ fn null_with_length_0_is_refused() {
         assert_eq!(found, refused_message(1, 0), "{word:#x}, {len} bytes, NULL");
     }
     check.finish(5_000 * 8);
-}
-
-fn lent_or_null(rng: &mut Rng, null: bool, content: &[u8]) -> Lent {
-    if null {
-        Lent::null()
-    } else {
-        Lent::holding(rng, content)
-    }
 }
 
 /// Lengths whose lowest 8 or 16 bits are those of a right length.

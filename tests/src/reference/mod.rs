@@ -1,4 +1,5 @@
 // An independent implementation of the card, written from the papers alone, one file a layer.
+pub mod frame;
 pub mod message;
 
 /// Why an input is refused: the number of the refusal table and the place it names.
