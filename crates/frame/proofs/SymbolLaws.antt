@@ -23,6 +23,10 @@ use Rattle.frame.specs.RoundTrip.{RightForm}
 
 -- ---- Symbols
 
+pub getD-sync : (place : ℕ) → getD syncVector place 0 ≡ syncAt place
+unfolding syncAt
+getD-sync place = refl
+
 pub sync-below : (place : ℕ) → syncAt place < 2
 unfolding syncAt syncVector
 sync-below place = ltb-true _ _ (every-at (λ s. ltb s 2) syncVector 0 refl refl place)

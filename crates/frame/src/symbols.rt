@@ -2,7 +2,7 @@
 ghost use mathlib.Core.Path.{_≡_};
 ghost use Prim.Native.Nat.{_≤_, _<_};
 ghost use lib.ListN.{length};
-ghost use Rattle.frame.specs.Symbols.{syncAt, frameOf, receivedBits};
+ghost use Rattle.frame.specs.Symbols.{syncVector, frameOf, receivedBits};
 ghost use Rattle.frame.specs.Answer.{firstLarge, firstWrongSync, wordOfData};
 use super::Read;
 use refusal::NO_WORD;
@@ -174,12 +174,11 @@ const SYNC: [u8; 162] = [
     0,
 ];
 
-// The sync bit of a place.
-fn sync_at(place: usize) -> u8
-    requires { ⌜ place < 162 ⌝ }
-    ensures { λ r. ⌜ r ≡ syncAt place ⌝ }
+// The table whole: it is copied once a frame, not once a symbol.
+fn sync_vector() -> [u8; 162]
+    ensures { λ r. ⌜ r ≡ syncVector ⌝ }
 {
-    SYNC[place]
+    SYNC
 }
 
 // Writes the frame of a word's 50 lowest bits.
@@ -189,9 +188,10 @@ pub(crate) fn write_symbols(word: u64, frame: &mut [u8])
 {
     let coded = convolution::encode(word);
     let order = interleaver::order();
+    let sync = sync_vector();
     let mut place = 0;
     while place < 162 {
-        frame[place] = sync_at(place) + 2 * coded[order[place] as usize];
+        frame[place] = sync[place] + 2 * coded[order[place] as usize];
         place += 1;
     }
 }
@@ -215,9 +215,10 @@ pub(crate) fn first_wrong_sync(frame: &[u8]) -> usize
     requires { ⌜ length (now frame) ≤ 162 ⌝ }
     ensures { λ r. ⌜ r ≡ firstWrongSync (now (frame .entry)) ⌝ }
 {
+    let sync = sync_vector();
     let mut place = 0;
     while place < frame.len() {
-        if frame[place] % 2 != sync_at(place) {
+        if frame[place] % 2 != sync[place] {
             return place;
         }
         place += 1;

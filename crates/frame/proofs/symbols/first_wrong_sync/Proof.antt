@@ -1,22 +1,32 @@
 -- `frame::symbols::first_wrong_sync` meets its contract: it looks for the first place whose sync bit is wrong.
 -- The measure is what is left of the frame.
 -- Assumes nothing.
-use mathlib.Core.Path.{refl, sym, _∙_}
-use Prim.Native.Nat.{_-_}
+use mathlib.Core.Path.{_≡_, refl, sym, ap, _∙_}
+use Prim.Native.Nat.{ℕ, _-_}
 use native.Mathlib.Omega.{arith}
-use lib.ListN.{length}
+use mathlib.Core.List.{List}
+use lib.ListN.{length, getD}
+use borrow.Author.Needs.{needs}
 use borrow.Author.Tests.{eq-eqb, ne-eqb}
 use Rattle.basics.proofs.ListLaws.{search-failed, search-passed, search-over}
+use Rattle.frame.specs.Symbols.{syncAt}
 use Rattle.frame.specs.Answer.{firstWrongSync}
-use Rattle.frame.proofs.SymbolLaws.{Searching, synced}
+use Rattle.frame.proofs.SymbolLaws.{getD-sync, Searching, synced}
 use Rattle.frame.proofs.symbols.first_wrong_sync.Statement.{statement}
 use Rattle.frame.proofs.symbols.first_wrong_sync.Tie as tie
 
 abbrev Inv-loop : tie.InvT-loop
-Inv-loop frame place₀ place = Searching synced frame place
+Inv-loop frame sync place₀ place = Searching synced frame place
 
 abbrev μ-loop : tie.MeasureT-loop
-μ-loop frame place₀ place = length frame - place
+μ-loop frame sync place₀ place = length frame - place
+
+-- What is read of the table is the place's sync bit.
+sync-read : (l : tie.At-loop Inv-loop μ-loop) → getD (l .before .sync-vector .result) (l .loop .place) 0 ≡ syncAt (l .loop .place)
+sync-read l = ap (λ (table : List ℕ). getD table (l .loop .place) 0) (l .before .sync-vector .ensures) ∙ getD-sync (l .loop .place)
+
+sync-vector-requires : tie.Need-sync-vector-requires Inv-loop μ-loop
+sync-vector-requires c κs = search needs
 
 loop-holds : tie.Need-loop-holds Inv-loop μ-loop
 loop-holds c = (omega arith, refl)
@@ -24,15 +34,15 @@ loop-holds c = (omega arith, refl)
 shared-slice-read-if1 : tie.Need-shared-slice-read-if1 Inv-loop μ-loop
 shared-slice-read-if1 c = omega arith
 
-sync-at-requires : tie.Need-sync-at-requires Inv-loop μ-loop
-sync-at-requires c κs = omega arith
+array-read-if1 : tie.Need-array-read-if1 Inv-loop μ-loop
+array-read-if1 c = omega arith
 
 returns : tie.Need-returns Inv-loop μ-loop
 unfolding firstWrongSync
 returns c =
-    let l = c .before .before .before .before in
-    let frame = l .before .before .args .frame .now in
-    let wrong = ne-eqb _ _ (λ e. c .if1 .taken (e ∙ sym (c .before .sync-at .ensures))) in
+    let l = c .before .before .before in
+    let frame = l .before .before .before .args .frame .now in
+    let wrong = ne-eqb _ _ (λ e. c .if1 .taken (e ∙ sym (sync-read l))) in
     sym (search-failed synced frame (l .loop .place) (l .loop .place) (omega arith) wrong) ∙ l .loop .inv .1
 
 add-place : tie.Need-add-place Inv-loop μ-loop
@@ -43,16 +53,16 @@ loop-less c = omega arith
 
 loop-again : tie.Need-loop-again Inv-loop μ-loop
 loop-again c =
-    let l = c .before .before .before .before in
-    let frame = l .before .before .args .frame .now in
-    let right = eq-eqb _ _ (c .if1 .left ∙ c .before .sync-at .ensures) in
+    let l = c .before .before .before in
+    let frame = l .before .before .before .args .frame .now in
+    let right = eq-eqb _ _ (c .if1 .left ∙ sync-read l) in
     (omega arith, search-passed synced frame (l .loop .place) (l .loop .place) (omega arith) right ∙ l .loop .inv .1)
 
 returns-2 : tie.Need-returns-2 Inv-loop μ-loop
 unfolding firstWrongSync
 returns-2 c =
     let l = c .before in
-    sym (search-over synced (l .before .before .args .frame .now) (l .loop .place) (l .loop .place) (omega arith)) ∙ l .loop .inv .1
+    sym (search-over synced (l .before .before .before .args .frame .now) (l .loop .place) (l .loop .place) (omega arith)) ∙ l .loop .inv .1
 
 pub first-wrong-sync-spec : {M : Type 1} → statement M
 first-wrong-sync-spec =
@@ -60,9 +70,10 @@ first-wrong-sync-spec =
     (tie.spec
     Inv-loop
     μ-loop
+    sync-vector-requires
     loop-holds
     shared-slice-read-if1
-    sync-at-requires
+    array-read-if1
     returns
     add-place
     loop-less

@@ -12,36 +12,39 @@ use Rattle.convolution.specs.Code.{codedBits}
 use Rattle.convolution.proofs.CodeLaws.{codedBits-below}
 use Rattle.interleaver.specs.Places.{orderOf}
 use Rattle.interleaver.proofs.PlaceLaws.{orderOf-below, getD-order}
-use Rattle.frame.specs.Symbols.{symbolAt, frameOf}
-use Rattle.frame.proofs.SymbolLaws.{sync-below, length-frameOf, getD-frameOf}
+use Rattle.frame.specs.Symbols.{syncAt, symbolAt, frameOf}
+use Rattle.frame.proofs.SymbolLaws.{getD-sync, sync-below, length-frameOf, getD-frameOf}
 use Rattle.frame.proofs.symbols.write_symbols.Statement.{statement}
 use Rattle.frame.proofs.symbols.write_symbols.Tie as tie
 
 abbrev Inv-loop : tie.InvT-loop
-Inv-loop word frame₀ coded order place₀ frame place = Filling (frameOf word) frame place
+Inv-loop word frame₀ coded order sync place₀ frame place = Filling (frameOf word) frame place
 
 abbrev μ-loop : tie.MeasureT-loop
-μ-loop word frame₀ coded order place₀ frame place = 162 - place
+μ-loop word frame₀ coded order sync place₀ frame place = 162 - place
 
--- What is read of the order is the index of the place's coded bit; what is read there is the bit; the sum is the symbol.
-index : (c : tie.After-sync-at Inv-loop μ-loop)
-    → getD (c .before .before .before .order .result) (c .before .before .loop .place) 0 ≡ orderOf (c .before .before .loop .place)
+-- What is read of the tables is the place's sync bit and the index of its coded bit; what is read there is the bit; the sum is the symbol.
+sync-read : (c : tie.In-loop Inv-loop μ-loop) → getD (c .before .before .sync-vector .result) (c .before .loop .place) 0 ≡ syncAt (c .before .loop .place)
+sync-read c = ap (λ (table : List ℕ). getD table (c .before .loop .place) 0) (c .before .before .sync-vector .ensures) ∙ getD-sync (c .before .loop .place)
+
+index : (c : tie.In-loop Inv-loop μ-loop) → getD (c .before .before .before .order .result) (c .before .loop .place) 0 ≡ orderOf (c .before .loop .place)
 index c =
-    let place = c .before .before .loop .place in
-    ap (λ (l : List ℕ). getD l place 0) (c .before .before .before .order .ensures) ∙ getD-order place (omega arith)
+    let place = c .before .loop .place in
+    ap (λ (table : List ℕ). getD table place 0) (c .before .before .before .order .ensures) ∙ getD-order place (omega arith)
 
-bit : (c : tie.After-sync-at Inv-loop μ-loop)
-    → getD (c .before .before .before .before .encode .result) (getD (c .before .before .before .order .result) (c .before .before .loop .place) 0) 0
-    ≡ getD (codedBits (c .before .before .before .before .before .before .args .word)) (orderOf (c .before .before .loop .place)) 0
+bit : (c : tie.In-loop Inv-loop μ-loop)
+    → getD (c .before .before .before .before .encode .result) (getD (c .before .before .before .order .result) (c .before .loop .place) 0) 0
+    ≡ getD (codedBits (c .before .before .before .before .before .before .args .word)) (orderOf (c .before .loop .place)) 0
 bit c = rw (index c, c .before .before .before .before .encode .ensures)
 
-written : (c : tie.After-sync-at Inv-loop μ-loop)
-    → c .sync-at .result + 2 * getD (c .before .before .before .before .encode .result) (getD (c .before .before .before .order .result) (c .before .before .loop .place) 0) 0
-    ≡ getD (frameOf (c .before .before .before .before .before .before .args .word)) (c .before .before .loop .place) 0
+written : (c : tie.In-loop Inv-loop μ-loop)
+    → getD (c .before .before .sync-vector .result) (c .before .loop .place) 0
+    + 2 * getD (c .before .before .before .before .encode .result) (getD (c .before .before .before .order .result) (c .before .loop .place) 0) 0
+    ≡ getD (frameOf (c .before .before .before .before .before .before .args .word)) (c .before .loop .place) 0
 unfolding symbolAt
 written c =
-    let l = c .before .before in
-    rw (bit c, c .sync-at .ensures) (sym (getD-frameOf (l .before .before .before .before .args .word) (l .loop .place) (omega arith)))
+    let l = c .before in
+    rw (bit c, sync-read c) (sym (getD-frameOf (l .before .before .before .before .before .args .word) (l .loop .place) (omega arith)))
 
 encode-requires : tie.Need-encode-requires Inv-loop μ-loop
 encode-requires c κs = search needs
@@ -49,37 +52,40 @@ encode-requires c κs = search needs
 order-requires : tie.Need-order-requires Inv-loop μ-loop
 order-requires c κs = search needs
 
+sync-vector-requires : tie.Need-sync-vector-requires Inv-loop μ-loop
+sync-vector-requires c κs = search needs
+
 loop-holds : tie.Need-loop-holds Inv-loop μ-loop
 loop-holds c =
-    let a = c .before .before .before .args in
+    let a = c .before .before .before .before .args in
     fill-starts _ _ (omega (arith, length-frameOf (a .word)))
-
-sync-at-requires : tie.Need-sync-at-requires Inv-loop μ-loop
-sync-at-requires c κs = omega arith
 
 array-read-frame : tie.Need-array-read-frame Inv-loop μ-loop
 array-read-frame c = omega arith
 
-cast-frame : tie.Need-cast-frame Inv-loop μ-loop
-cast-frame c = omega (arith, index c, orderOf-below (c .before .before .loop .place) (omega arith))
-
 array-read-frame-2 : tie.Need-array-read-frame-2 Inv-loop μ-loop
-array-read-frame-2 c = rw (index c) (orderOf-below (c .before .before .loop .place) (omega arith))
+array-read-frame-2 c = omega arith
+
+cast-frame : tie.Need-cast-frame Inv-loop μ-loop
+cast-frame c = omega (arith, index c, orderOf-below (c .before .loop .place) (omega arith))
+
+array-read-frame-3 : tie.Need-array-read-frame-3 Inv-loop μ-loop
+array-read-frame-3 c = rw (index c) (orderOf-below (c .before .loop .place) (omega arith))
 
 mul-frame : tie.Need-mul-frame Inv-loop μ-loop
 mul-frame c =
-    omega (arith, bit c, codedBits-below (c .before .before .before .before .before .before .args .word) (orderOf (c .before .before .loop .place)))
+    omega (arith, bit c, codedBits-below (c .before .before .before .before .before .before .args .word) (orderOf (c .before .loop .place)))
 
 add-frame : tie.Need-add-frame Inv-loop μ-loop
 add-frame c =
-    let l = c .before .before in
-    let word = l .before .before .before .before .args .word in
-    omega (arith, bit c, codedBits-below word (orderOf (l .loop .place)), c .sync-at .ensures, sync-below (l .loop .place))
+    let l = c .before in
+    let word = l .before .before .before .before .before .args .word in
+    omega (arith, bit c, codedBits-below word (orderOf (l .loop .place)), sync-read c, sync-below (l .loop .place))
 
 slice-write-frame : tie.Need-slice-write-frame Inv-loop μ-loop
 slice-write-frame c =
-    let l = c .before .before in
-    omega (arith, l .loop .inv .same, length-frameOf (l .before .before .before .before .args .word))
+    let l = c .before in
+    omega (arith, l .loop .inv .same, length-frameOf (l .before .before .before .before .before .args .word))
 
 add-place : tie.Need-add-place Inv-loop μ-loop
 add-place c = omega arith
@@ -89,19 +95,19 @@ loop-less c = omega arith
 
 loop-again : tie.Need-loop-again Inv-loop μ-loop
 loop-again c =
-    let l = c .before .before in
-    let word = l .before .before .before .before .args .word in
+    let l = c .before in
+    let word = l .before .before .before .before .before .args .word in
     fill-turn (frameOf word) (l .loop .frame) (l .loop .place) _ (omega (arith, length-frameOf word)) (written c) (l .loop .inv)
 
 same-length : tie.Need-same-length Inv-loop μ-loop
 same-length c =
     let l = c .before in
-    omega (arith, l .loop .inv .same, length-frameOf (l .before .before .before .before .args .word))
+    omega (arith, l .loop .inv .same, length-frameOf (l .before .before .before .before .before .args .word))
 
 returns : tie.Need-returns Inv-loop μ-loop
 returns c =
     let l = c .before in
-    let word = l .before .before .before .before .args .word in
+    let word = l .before .before .before .before .before .args .word in
     fill-ends (frameOf word) (l .loop .frame) (l .loop .place) (omega (arith, length-frameOf word)) (l .loop .inv)
 
 pub write-symbols-spec : {M : Type 1} → statement M
@@ -112,11 +118,12 @@ write-symbols-spec =
     μ-loop
     encode-requires
     order-requires
+    sync-vector-requires
     loop-holds
-    sync-at-requires
     array-read-frame
-    cast-frame
     array-read-frame-2
+    cast-frame
+    array-read-frame-3
     mul-frame
     add-frame
     slice-write-frame
