@@ -6,7 +6,7 @@ use native.Mathlib.Omega.{arith}
 use mathlib.Core.List.{List, [], _∷_, _++_}
 use lib.Bits.{bitAnd, bitOr, and-step, or-shifted}
 use lib.Count.{ones, ones-step}
-use lib.ListN.{length, getD, replicate, length-append, length-replicate, getD-replicate, List·getD-append}
+use lib.ListN.{length, getD, replicate, length-append, length-replicate, getD-replicate, List·getD-append, List·getD-eq-default}
 use lib.Seq.{getD-append-add}
 use Rattle.basics.proofs.Choice.{below-or-not}
 use Rattle.radix.specs.Numeral.{Digits, Positive, count, digitsOf}
@@ -59,11 +59,14 @@ clocked-last word step h k =
     ∙ getD-append-add (bitsOf 50 word) (replicate 31 0) (step - 50) 0
     ∙ getD-replicate 31 (step - 50) 0 0 (omega arith)
 
-pub clocked-below : (word step : ℕ) → step < 81 → getD (clockedBits word) step 0 < 2
-clocked-below word step h =
+pub clocked-below : (word step : ℕ) → getD (clockedBits word) step 0 < 2
+clocked-below word step =
     below-or-not step 50
-    (λ early. rw (clocked-first word step early) (mod-lt (word / 2 ^ (49 - step)) (omega arith)))
-    (λ late. rw (clocked-last word step late h) (omega arith))
+    (λ first. rw (clocked-first word step first) (mod-lt (word / 2 ^ (49 - step)) (omega arith)))
+    (λ h.
+    below-or-not step 81
+    (λ last. rw (clocked-last word step h last) (omega arith))
+    (λ past. rw (List·getD-eq-default (clockedBits word) 0 {n = step} (rw (length-clockedBits word) past)) (omega arith)))
 
 -- ---- The registers
 

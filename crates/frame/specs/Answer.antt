@@ -7,7 +7,7 @@ use lib.ListN.{length}
 use Rattle.basics.specs.Lists.{firstFailing, sameList}
 use Rattle.refusal.specs.Refusals.{refusal, wrongLength, wordTooLarge, symbolTooLarge, wrongSync, noWord}
 use Rattle.refusal.specs.declared.Refusal.{Refusal}
-use Rattle.message.specs.Answer.{packed, unpacked, callsignAfter, locatorAfter, WordNumbers}
+use Rattle.message.specs.Answer.{packed, unpacked, callsignAfter, locatorAfter, WordNumbers, wordGiven, wordRefused}
 use Rattle.message.specs.Word.{wordOf}
 use Rattle.message.specs.declared.Packed.{Packed}
 use Rattle.message.specs.declared.Unpacked.{Unpacked}
@@ -105,5 +105,5 @@ refusalOf (Read.Word w) = refusal 0 0
 refusalOf (Read.Refused f) = f
 
 unfoldable pub readNumbers : Read → WordNumbers
-readNumbers (Read.Word w) = record { number = 0; place = 0; word = w }
-readNumbers (Read.Refused f) = record { number = f .number; place = f .place; word = 0 }
+readNumbers (Read.Word w) = wordGiven w
+readNumbers (Read.Refused f) = wordRefused f

@@ -1,5 +1,6 @@
 // A frame of 162 symbols: written from a word or a message, and strictly read to either.
 mod symbols;
+mod sync;
 
 ghost use mathlib.Core.Path.{_≡_};
 ghost use lib.ListN.{length};

@@ -14,6 +14,7 @@ use Rattle.frame.proofs.AnswerLaws.{written-answered, message-answered, read-an
 use Rattle.frame.proofs.RoundTripLaws.{WriteWordPromised, WriteMessagePromised, ReadWordPromised, ReadMessagePromised}
 use Rattle.wsprcard.specs.Results.{writtenResult, wordResult, messageResult, FrameReadsAsWord, FrameReadsAsMessage, WordWritesFrame, FrameRefusedExactly, NoWordExactly, MessageWritesFrame, MessageFrameRefusedExactly}
 use Rattle.wsprcard.specs.declared.WsprWritten.{WsprWritten}
+use Rattle.wsprcard.specs.declared.WsprWord.{WsprWord}
 use Rattle.wsprcard.specs.declared.WsprMessage.{WsprMessage}
 
 -- ---- Writing
@@ -50,12 +51,10 @@ unfolding unpackedNumbers
 message-refused (Unpacked.Power p) nonzero = nonzero refl
 message-refused (Unpacked.Refused f) nonzero = tt
 
-pub read-word-results : (frame : List ℕ) (answer : Read) → ReadWordPromised frame answer
-    → (wordResult (readNumbers answer) ≡ wordResult (readNumbers (wordRead frame)))
-    × (WordWritesFrame (wordResult (readNumbers answer)) frame
-    × (FrameRefusedExactly (wordResult (readNumbers answer)) frame × NoWordExactly (wordResult (readNumbers answer)) frame))
+pub read-word-results : (frame : List ℕ) (answer : Read) (r : WsprWord) → r ≡ wordResult (readNumbers answer) → ReadWordPromised frame answer
+    → (r ≡ wordResult (readNumbers (wordRead frame))) × (WordWritesFrame r frame × (FrameRefusedExactly r frame × NoWordExactly r frame))
 unfolding wordResult readNumbers
-read-word-results frame answer (e, (back, (exactly, none))) =
+read-word-results frame answer r result (e, (back, (exactly, none))) =
     let answered : readNumbers answer .number ≡ 0 → answer ≡ Read.Word (readNumbers answer .word) = rw e (read-answered frame) in
     let writes : WordWritesFrame (wordResult (readNumbers answer)) frame =
     λ z. subst (λ (a : Read). WordWritesBack a frame) (answered z) back in
@@ -66,7 +65,7 @@ read-word-results frame answer (e, (back, (exactly, none))) =
     let is-none : readNumbers answer .number ≡ noWord → answer ≡ Read.Refused (refusal noWord 0) = rw e (read-none frame) in
     let nine : NoWordExactly (wordResult (readNumbers answer)) frame =
     λ form. (λ n. none form .0 (is-none n), λ no-word. ap (λ (a : Read). readNumbers a .number) (none form .1 no-word)) in
-    (ap (λ (a : Read). wordResult (readNumbers a)) e, (writes, (refuses, nine)))
+    rw result (ap (λ (a : Read). wordResult (readNumbers a)) e, (writes, (refuses, nine)))
 
 pub read-message-results : (frame callsign locator : List ℕ) (answer : Unpacked) (its-callsign its-locator : List ℕ) (r : WsprMessage)
     → r ≡ messageResult (unpackedNumbers answer) → ReadMessagePromised frame callsign locator answer its-callsign its-locator

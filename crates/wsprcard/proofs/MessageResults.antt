@@ -1,5 +1,5 @@
 -- What the layer of messages promises of its answers, in the terms of the C interface's structs.
-use mathlib.Core.Path.{_≡_, ap, _∙_, subst}
+use mathlib.Core.Path.{_≡_, ap, subst}
 use mathlib.Core.Logic.{_↔_}
 use Prim.Native.Nat.{ℕ}
 use mathlib.Core.List.{List}
@@ -7,19 +7,22 @@ use Rattle.message.specs.Answer.{packed, unpacked, callsignAfter, locatorAfter,
 use Rattle.message.specs.RoundTrip.{ReadsBack, PacksBack, IsRefused}
 use Rattle.message.specs.declared.Packed.{Packed}
 use Rattle.message.specs.declared.Unpacked.{Unpacked}
-use Rattle.message.proofs.AnswerLaws.{refused-no-word, packed-answered, unpacked-answered, refused-number}
+use Rattle.message.proofs.AnswerLaws.{packed-answered, unpacked-answered, refused-number}
 use Rattle.message.proofs.RoundTripLaws.{Promised}
 use Rattle.wsprcard.specs.Results.{wordResult, messageResult, WordReadsBack, MessagePacksBack, WordRefusedExactly}
+use Rattle.wsprcard.specs.declared.WsprWord.{WsprWord}
 use Rattle.wsprcard.specs.declared.WsprMessage.{WsprMessage}
 
-pub pack-results : (callsign locator : List ℕ) (power : ℕ) (answer : Packed) → answer ≡ packed callsign locator power
-    → ReadsBack answer callsign locator power
-    → (wordResult (packedNumbers answer) ≡ wordResult (packedNumbers (packed callsign locator power)))
-    × WordReadsBack (wordResult (packedNumbers answer)) callsign locator power
-unfolding wordResult packedNumbers
-pack-results callsign locator power (Packed.Word w) e back = (ap (λ (a : Packed). wordResult (packedNumbers a)) e, λ z. back)
-pack-results callsign locator power (Packed.Refused f) e back =
-    (ap (λ (a : Packed). wordResult (packedNumbers a)) e, λ z. absurd (refused-no-word _ _ (e ∙ packed-answered callsign locator power (rw e at z))))
+pub pack-results : (callsign locator : List ℕ) (power : ℕ) (answer : Packed) (r : WsprWord) → r ≡ wordResult (packedNumbers answer)
+    → (answer ≡ packed callsign locator power) × ReadsBack answer callsign locator power
+    → (r ≡ wordResult (packedNumbers (packed callsign locator power))) × WordReadsBack r callsign locator power
+unfolding wordResult
+pack-results callsign locator power answer r result (e, back) =
+    let answered : packedNumbers answer .number ≡ 0 → answer ≡ Packed.Word (packedNumbers answer .word) =
+    rw e (packed-answered callsign locator power) in
+    let reads : WordReadsBack (wordResult (packedNumbers answer)) callsign locator power =
+    λ z. subst (λ (a : Packed). ReadsBack a callsign locator power) (answered z) back in
+    rw result (ap (λ (a : Packed). wordResult (packedNumbers a)) e, reads)
 
 pub unpack-results : (callsign locator : List ℕ) (word : ℕ) (answer : Unpacked) (its-callsign its-locator : List ℕ) (r : WsprMessage)
     → r ≡ messageResult (unpackedNumbers answer) → Promised callsign locator word answer its-callsign its-locator

@@ -1,13 +1,14 @@
 // The card's functions for a host in C, over include/wsprcard.h: each is a thin layer over that of
 // its crate, with the answer's result numbers in a struct.
 ghost use mathlib.Core.Path.{_≡_};
-ghost use Rattle.message.specs.Answer.{packed, unpacked, callsignAfter, locatorAfter, packedNumbers, unpackedNumbers};
+ghost use Rattle.message.specs.Answer.{packed, unpacked, callsignAfter, locatorAfter, packedNumbers, unpackedNumbers, wordGiven, wordRefused};
 ghost use Rattle.frame.specs.Answer.{wordWritten, messageWritten, frameAfterWord, frameAfterMessage, wordRead, messageRead, callsignRead, locatorRead, readNumbers};
 ghost use Rattle.wsprcard.specs.Results.{writtenResult, wordResult, messageResult, WordReadsBack, MessagePacksBack, WordRefusedExactly, FrameReadsAsWord, FrameReadsAsMessage, WordWritesFrame, FrameRefusedExactly, NoWordExactly, MessageWritesFrame, MessageFrameRefusedExactly};
 use frame::Read;
 use frame::Written;
 use message::Packed;
 use message::Unpacked;
+use refusal::Refusal;
 
 // Refusal number (0: success) and place.
 #[repr(C)]
@@ -48,6 +49,28 @@ fn written_result(answer: Written) -> WsprWritten
     }
 }
 
+// The result with a word.
+fn given_word(word: u64) -> WsprWord
+    ensures { λ r. ⌜ r ≡ wordResult (wordGiven word) ⌝ }
+{
+    WsprWord {
+        refusal: 0,
+        place: 0,
+        word,
+    }
+}
+
+// The result of a refusal to give a word.
+fn refused_word(refusal: Refusal) -> WsprWord
+    ensures { λ r. ⌜ r ≡ wordResult (wordRefused refusal) ⌝ }
+{
+    WsprWord {
+        refusal: refusal.number,
+        place: refusal.place,
+        word: 0,
+    }
+}
+
 // The result of reading a message.
 fn message_result(answer: Unpacked) -> WsprMessage
     ensures { λ r. ⌜ r ≡ messageResult (unpackedNumbers answer) ⌝ }
@@ -73,16 +96,8 @@ pub extern "C" fn wspr_pack(callsign: &[u8], locator: &[u8], power: u32) -> Wspr
     ensures reads_back { λ r. ⌜ WordReadsBack r (now (callsign .entry)) (now (locator .entry)) power ⌝ }
 {
     match message::pack(callsign, locator, power) {
-        Packed::Word(word) => WsprWord {
-            refusal: 0,
-            place: 0,
-            word,
-        },
-        Packed::Refused(refusal) => WsprWord {
-            refusal: refusal.number,
-            place: refusal.place,
-            word: 0,
-        },
+        Packed::Word(word) => given_word(word),
+        Packed::Refused(refusal) => refused_word(refusal),
     }
 }
 
@@ -132,16 +147,8 @@ pub extern "C" fn wspr_read_word(frame: &[u8]) -> WsprWord
     ensures no_word { λ r. ⌜ NoWordExactly r (now (frame .entry)) ⌝ }
 {
     match frame::read_word(frame) {
-        Read::Word(word) => WsprWord {
-            refusal: 0,
-            place: 0,
-            word,
-        },
-        Read::Refused(refusal) => WsprWord {
-            refusal: refusal.number,
-            place: refusal.place,
-            word: 0,
-        },
+        Read::Word(word) => given_word(word),
+        Read::Refused(refusal) => refused_word(refusal),
     }
 }
 

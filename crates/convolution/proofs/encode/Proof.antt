@@ -27,9 +27,7 @@ clocked-bit-requires : tie.Need-clocked-bit-requires Inv-loop μ-loop
 clocked-bit-requires c κs = omega arith
 
 clock-requires : tie.Need-clock-requires Inv-loop μ-loop
-clock-requires c κs =
-    let a = c .before .before .before .before .args in
-    rw (c .clocked-bit .ensures) (clocked-below (a .word) (c .before .before .loop .step) (omega arith))
+clock-requires c κs = rw (c .clocked-bit .ensures) (clocked-below _ _)
 
 first-coded-requires : tie.Need-first-coded-requires Inv-loop μ-loop
 first-coded-requires c κs = omega arith

@@ -1,9 +1,9 @@
--- `frame::symbols::sync_vector` meets its contract: the table is the synchronization vector, entry by entry.
+-- `frame::sync::sync_vector` meets its contract: the table is the synchronization vector, entry by entry.
 -- Assumes nothing.
 use mathlib.Core.Path.{refl}
 use Rattle.frame.specs.Symbols.{syncVector}
-use Rattle.frame.proofs.symbols.sync_vector.Statement.{statement}
-use Rattle.frame.proofs.symbols.sync_vector.Tie as tie
+use Rattle.frame.proofs.sync.sync_vector.Statement.{statement}
+use Rattle.frame.proofs.sync.sync_vector.Tie as tie
 
 returns : tie.Need-returns
 unfolding syncVector
