@@ -12,7 +12,8 @@ use lib.ListN.{length, getD, drop, replicate, drop-of-length-le}
 use lib.Seq.{drop-cons}
 use borrow.Author.Tests.{lt-ltb, le-ltb, ltb-true}
 use Rattle.radix.specs.Numeral.{numberFrom, numberOf}
-use Rattle.basics.proofs.Choice.{by-test, cond-held, between-true, between-below, between-above}
+use Rattle.basics.specs.Test.{between}
+use Rattle.basics.proofs.Choice.{by-test, cond-held, cond-both, between-true, between-below, between-above}
 use Rattle.wsjtx_vectors.specs.Number.{digitValue, allDigits, numberIn}
 use Rattle.wsjtx_vectors.specs.declared.number.Number.{Number}
 
@@ -37,6 +38,13 @@ value-between {b} h k = rw (between-above 48 57 b (omega arith) h, between-below
 pub value-above : {b : ℕ} → 102 < b → digitValue b ≡ 16
 unfolding digitValue
 value-above {b} h = rw (between-above 48 57 b (omega arith) (omega arith), between-above 97 102 b (omega arith) h)
+
+-- A byte's value fits a byte.
+pub value-fits : {b : ℕ} → b < 256 → digitValue b < 256
+unfolding digitValue
+value-fits {b} h =
+    cond-both (λ (v : ℕ). v < 256) (between 48 57 b) (omega arith)
+    (cond-both (λ (v : ℕ). v < 256) (between 97 102 b) (omega arith) (omega arith))
 
 -- ---- Reading, digit by digit
 

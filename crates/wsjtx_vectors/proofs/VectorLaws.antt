@@ -1,18 +1,18 @@
--- Laws of vectors: what a line says in each case of its definition, and the bound of a power.
-use mathlib.Core.Path.{_≡_}
-use Prim.Native.Nat.{ℕ, _+_, _^_, _≤_, _<_}
+-- Laws of vectors: what a line says in each case of its definition, the bound of a power, and the symbols of a vector.
+use mathlib.Core.Path.{_≡_, refl}
+use Prim.Native.Nat.{ℕ, zero, suc, _+_, _^_, _≤_, _<_}
 use native.Mathlib.Nat.{pow-le-pow-right}
 use native.Mathlib.Omega.{arith}
-use mathlib.Core.Bool.{true, false}
-use mathlib.Core.List.{List}
+use mathlib.Core.Bool.{true, false, and-false}
+use mathlib.Core.List.{List, [], _∷_}
 use lib.Dec.{eqb, leb}
-use lib.ListN.{length}
+use lib.ListN.{length, getD, length-map}
 use borrow.Author.Tests.{leb-true, eq-eqb, ne-eqb}
-use Rattle.basics.proofs.Choice.{both-true, cond-held, between-true, between-below, between-above}
+use Rattle.basics.proofs.Choice.{both-true, cond-held, equal-or-not, between-true, between-below, between-above}
 use Rattle.basics.specs.Test.{between}
 use Rattle.wsjtx_vectors.specs.Field.{fieldAt}
-use Rattle.wsjtx_vectors.specs.Number.{numberIn}
-use Rattle.wsjtx_vectors.specs.Vector.{hasForm, powerIn, wordIn, numbers, vectorIn}
+use Rattle.wsjtx_vectors.specs.Number.{digitValue, numberIn}
+use Rattle.wsjtx_vectors.specs.Vector.{hasForm, powerIn, wordIn, numbers, vectorIn, symbolsIn}
 use Rattle.wsjtx_vectors.specs.declared.number.Number.{Number}
 use Rattle.wsjtx_vectors.specs.declared.vector.Vector.{Vector}
 use Rattle.wsjtx_vectors.proofs.NumberLaws.{number-below}
@@ -61,10 +61,14 @@ module _ (line : List ℕ) where
   unfolding hasForm
   no-locator h k = rw (eq-eqb _ 6 h, ne-eqb _ 4 k)
 
-  pub form-by-length : length (fieldAt 0 line) ≡ 6 → length (fieldAt 1 line) ≡ 4
-      → hasForm line ≡ eqb (length line) (length (fieldAt 2 line) + 26)
+  pub no-symbols : (length (fieldAt 4 line) ≡ 162 → ⊥) → hasForm line ≡ false
   unfolding hasForm
-  form-by-length h k = rw (eq-eqb _ 6 h, eq-eqb _ 4 k)
+  no-symbols h = rw (ne-eqb _ 162 h, and-false)
+
+  pub form-by-length : length (fieldAt 0 line) ≡ 6 → length (fieldAt 1 line) ≡ 4 → length (fieldAt 4 line) ≡ 162
+      → hasForm line ≡ eqb (length line) (length (fieldAt 2 line) + 189)
+  unfolding hasForm
+  form-by-length h k l = rw (eq-eqb _ 6 h, eq-eqb _ 4 k, eq-eqb _ 162 l)
 
   pub no-form : hasForm line ≡ false → vectorIn line ≡ Vector.Malformed
   unfolding vectorIn
@@ -83,3 +87,21 @@ module _ (line : List ℕ) where
       pub both-numbers : {word : ℕ} → wordIn (fieldAt 3 line) ≡ Number.Value word → vectorIn line ≡ Vector.Numbers power word
       unfolding vectorIn numbers
       both-numbers h = rw (form, its-power, h)
+
+  -- A vector has 162 symbols.
+  pub symbols-of-vector : {power word : ℕ} → vectorIn line ≡ Vector.Numbers power word → length (fieldAt 4 line) ≡ 162
+  symbols-of-vector e =
+      equal-or-not (length (fieldAt 4 line)) 162 (λ h. h)
+      (λ h. absurd (let z : _≡_ {A = ℕ} 0 1 = cc (no-form (no-symbols h)) in omega arith))
+
+-- ---- Symbols
+
+pub length-symbols : (text : List ℕ) → length (symbolsIn text) ≡ length text
+unfolding symbolsIn
+length-symbols text = length-map text digitValue
+
+pub symbol-at : (text : List ℕ) (i : ℕ) → i < length text → getD (symbolsIn text) i 0 ≡ digitValue (getD text i 0)
+unfolding symbolsIn
+symbol-at [] i h = absurd (omega arith)
+symbol-at (b ∷ bs) zero h = refl
+symbol-at (b ∷ bs) (suc i) h = symbol-at bs i (omega arith)

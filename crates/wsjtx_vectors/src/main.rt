@@ -1,68 +1,87 @@
-// Runs the vectors that WSJT-X printed, one a line: callsign|locator|power|word.
+// Runs the vectors that WSJT-X printed, one a line: callsign|locator|power|word|symbols.
 //
-// Each is answered by a line word|callsign|locator|power, whose word is made from the vector's
-// message and whose message is read from the vector's word. So both directions are tried, and where
-// both are right the answer has the vector's own fields. The file stdin has what wsprsim and
-// wsprcode of WSJT-X 2.6.1 both print, and stdout the same with each word in front.
+// Each is answered by a line with, between bars: the word and the frame written from the vector's
+// message, the frame written from its word, the message read from its word, and the word and the
+// message read from its symbols. So each direction is tried, and where all are right the answer is
+//
+//     word|symbols|symbols|callsign|locator|power|word|callsign|locator|power
+//
+// with the vector's own fields. The file stdin has what wsprsim and wsprcode of WSJT-X 2.6.1 both
+// print, and stdout has it in this order.
 mod field;
 mod number;
+mod output;
 mod vector;
 
+ghost use mathlib.Core.Path.{_≡_};
+ghost use lib.ListN.{length};
+ghost use Rattle.wsjtx_vectors.specs.Field.{fieldAt};
 use field::field;
 use libc::STDIN_FILENO;
-use libc::STDOUT_FILENO;
-use message::Packed;
-use message::Unpacked;
-use refusal::Refusal;
+use output::print;
+use output::print_bar;
+use output::print_packed;
+use output::print_read;
+use output::print_unpacked;
+use output::print_written;
 use vector::Vector;
 
-fn print(text: &[u8]) {
-    io::write_all(STDOUT_FILENO, text);
+fn print_frame_of_message(callsign: &[u8], locator: &[u8], power: u32) {
+    let mut symbols = basics::zeros();
+    let written = frame::write_message(callsign, locator, power, &mut symbols);
+    print_written(written, &symbols);
 }
 
-fn print_bar() {
-    print(b"|");
+fn print_frame_of_word(word: u64) {
+    let mut symbols = basics::zeros();
+    let written = frame::write_word(word, &mut symbols);
+    print_written(written, &symbols);
 }
 
-fn print_refusal(refusal: Refusal) {
-    print(b"refused ");
-    io::print_decimal(STDOUT_FILENO, refusal.number as u64);
-    print(b" ");
-    io::print_decimal(STDOUT_FILENO, refusal.place as u64);
-}
-
-// A word is printed with as many digits as a vector's word has.
-fn print_word(packed: Packed) {
-    match packed {
-        Packed::Word(word) => {
-            io::print_hex(STDOUT_FILENO, word, 13);
-        }
-        Packed::Refused(refusal) => print_refusal(refusal),
-    }
-}
-
-fn print_fields(callsign: &[u8], locator: &[u8], power: u32) {
-    print(callsign);
-    print_bar();
-    print(locator);
-    print_bar();
-    io::print_decimal(STDOUT_FILENO, power as u64);
-}
-
-fn print_message(word: u64) {
+fn print_message_of_word(word: u64) {
     let mut callsign = [0u8; 6];
     let mut locator = [0u8; 4];
-    match message::unpack(word, &mut callsign, &mut locator) {
-        Unpacked::Power(power) => print_fields(&callsign, &locator, power),
-        Unpacked::Refused(refusal) => print_refusal(refusal),
-    }
+    let unpacked = message::unpack(word, &mut callsign, &mut locator);
+    print_unpacked(unpacked, &callsign, &locator);
 }
 
-// The word of the vector's message, and the message of the vector's word.
-fn print_answers(line: &[u8], power: u32, word: u64) {
-    print_word(message::pack(field(line, 0), field(line, 1), power));
+fn print_message_of_symbols(symbols: &[u8]) {
+    let mut callsign = [0u8; 6];
+    let mut locator = [0u8; 4];
+    let unpacked = frame::read_message(symbols, &mut callsign, &mut locator);
+    print_unpacked(unpacked, &callsign, &locator);
+}
+
+// What the vector's message gives: the word and the frame.
+fn print_answers_of_message(callsign: &[u8], locator: &[u8], power: u32) {
+    print_packed(message::pack(callsign, locator, power));
     print_bar();
-    print_message(word);
+    print_frame_of_message(callsign, locator, power);
+}
+
+// What the vector's word gives: the frame and the message.
+fn print_answers_of_word(word: u64) {
+    print_frame_of_word(word);
+    print_bar();
+    print_message_of_word(word);
+}
+
+// What the vector's symbols give: the word and the message.
+fn print_answers_of_symbols(symbols: &[u8]) {
+    print_read(frame::read_word(symbols));
+    print_bar();
+    print_message_of_symbols(symbols);
+}
+
+// The line is a vector, so its fifth field has 162 bytes.
+fn print_answers(line: &[u8], power: u32, word: u64)
+    requires { ⌜ length (fieldAt 4 (now line)) ≡ 162 ⌝ }
+{
+    print_answers_of_message(field(line, 0), field(line, 1), power);
+    print_bar();
+    print_answers_of_word(word);
+    print_bar();
+    print_answers_of_symbols(&vector::read_symbols(field(line, 4)));
 }
 
 fn print_vector(line: &[u8]) {

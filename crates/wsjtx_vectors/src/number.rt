@@ -11,7 +11,7 @@ pub(crate) enum Number {
 }
 
 // The value of a decimal or lower-case hexadecimal digit; of any other byte 16, which no base has.
-fn digit_value(byte: u8) -> u64
+pub(crate) fn digit_value(byte: u8) -> u64
     ensures { λ r. ⌜ r ≡ digitValue byte ⌝ }
 {
     match byte {

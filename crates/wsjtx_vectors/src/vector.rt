@@ -1,9 +1,11 @@
-// A vector's line, callsign|locator|power|word: its form, and the two numbers in it.
+// A vector's line, callsign|locator|power|word|symbols: its form, and what its fields say.
 ghost use mathlib.Core.Path.{_≡_};
-ghost use Rattle.wsjtx_vectors.specs.Vector.{hasForm, powerIn, wordIn, vectorIn};
+ghost use lib.ListN.{length};
+ghost use Rattle.wsjtx_vectors.specs.Vector.{hasForm, powerIn, wordIn, vectorIn, symbolsIn};
 use super::field::field;
 use super::number;
 use super::number::Number;
+use super::number::digit_value;
 
 // What a line says.
 pub(crate) enum Vector {
@@ -11,15 +13,18 @@ pub(crate) enum Vector {
     Malformed,
 }
 
-// The callsign and the locator have their lengths, and nothing follows the word: beside the power
-// a line has 26 bytes, 6, 4 and 13 in fields and three bars.
+// The callsign, the locator and the symbols have their lengths, and nothing follows the symbols:
+// beside the power a line has 189 bytes, 6, 4, 13 and 162 in fields and four bars.
 fn has_form(line: &[u8]) -> bool
     ensures { λ r. ⌜ r ≡ hasForm (now (line .entry)) ⌝ }
 {
     if field(line, 0).len() != 6 || field(line, 1).len() != 4 {
         return false;
     }
-    line.len() == field(line, 2).len() + 26
+    if field(line, 4).len() != 162 {
+        return false;
+    }
+    line.len() == field(line, 2).len() + 189
 }
 
 // A power has one or two decimal digits.
@@ -59,4 +64,19 @@ pub(crate) fn read(line: &[u8]) -> Vector
         power: power as u32,
         word,
     }
+}
+
+// The symbols that 162 digits write. A byte other than the digits 0 to 3 makes a symbol above 3,
+// which no frame has.
+pub(crate) fn read_symbols(text: &[u8]) -> [u8; 162]
+    requires { ⌜ length (now text) ≡ 162 ⌝ }
+    ensures { λ r. ⌜ r ≡ symbolsIn (now (text .entry)) ⌝ }
+{
+    let mut symbols = basics::zeros();
+    let mut i = 0;
+    while i < 162 {
+        symbols[i] = digit_value(text[i]) as u8;
+        i += 1;
+    }
+    symbols
 }

@@ -5,7 +5,7 @@ use mathlib.Core.Logic.{⊎-elim}
 use borrow.Author.Needs.{needs}
 use borrow.Author.Tests.{not-true, not-false, eqb-true, eqb-false}
 use lib.ListN.{length}
-use Rattle.wsjtx_vectors.proofs.VectorLaws.{no-callsign, no-locator, form-by-length}
+use Rattle.wsjtx_vectors.proofs.VectorLaws.{no-callsign, no-locator, no-symbols, form-by-length}
 use Rattle.wsjtx_vectors.proofs.vector.has_form.Statement.{statement}
 use Rattle.wsjtx_vectors.proofs.vector.has_form.Tie as tie
 
@@ -27,18 +27,36 @@ returns c =
 field-requires-3 : tie.Need-field-requires-3
 field-requires-3 c κs = search needs
 
+returns-2 : tie.Need-returns-2
+returns-2 c =
+    let f = c .before in
+    sym (no-symbols (f .before .before .before .before .before .before .args .line .now) (λ e. c .if3 .taken (ap length (f .field3 .ensures) ∙ e)))
+
+field-requires-4 : tie.Need-field-requires-4
+field-requires-4 c κs = search needs
+
 add-result : tie.Need-add-result
 add-result c = search needs
 
-returns-2 : tie.Need-returns-2
-returns-2 c =
-    let l = c .before .before in
+returns-3 : tie.Need-returns-3
+returns-3 c =
+    let s = c .before .before in
+    let l = s .before .before in
     let f = l .before .before in
     let callsign = sym (ap length (f .field .ensures)) ∙ l .before .if1 .left in
-    let locator = sym (ap length (l .field2 .ensures)) ∙ eqb-true _ 4 (not-false _ (c .before .if2 .left)) in
-    rw (c .field3 .ensures) (sym (form-by-length (f .before .before .args .line .now) callsign locator))
+    let locator = sym (ap length (l .field2 .ensures)) ∙ eqb-true _ 4 (not-false _ (s .before .if2 .left)) in
+    let symbols = sym (ap length (s .field3 .ensures)) ∙ c .before .if3 .left in
+    rw (c .field4 .ensures) (sym (form-by-length (f .before .before .args .line .now) callsign locator symbols))
 
 pub has-form-spec : {M : Type 1} → statement M
 has-form-spec =
     tie.close
-    (tie.spec field-requires field-requires-2 returns field-requires-3 add-result returns-2)
+    (tie.spec
+    field-requires
+    field-requires-2
+    returns
+    field-requires-3
+    returns-2
+    field-requires-4
+    add-result
+    returns-3)
