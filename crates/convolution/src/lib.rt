@@ -17,14 +17,14 @@ fn parity(register: u32, mask: u32) -> u8
 }
 
 // The first coded bit of a register.
-pub fn first_coded(register: u32) -> u8
+fn first_coded(register: u32) -> u8
     ensures { λ r. ⌜ r ≡ parity firstMask register ⌝ }
 {
     parity(register, FIRST_MASK)
 }
 
 // The second coded bit of a register.
-pub fn second_coded(register: u32) -> u8
+fn second_coded(register: u32) -> u8
     ensures { λ r. ⌜ r ≡ parity secondMask register ⌝ }
 {
     parity(register, SECOND_MASK)
@@ -32,7 +32,7 @@ pub fn second_coded(register: u32) -> u8
 
 // The register after a bit: shifted left, the new bit lowest. Both registers of the definition hold
 // the same bits, so that one serves for both.
-pub fn clock(register: u32, bit: u8) -> u32
+fn clock(register: u32, bit: u8) -> u32
     requires { ⌜ bit < 2 ⌝ }
     ensures { λ r. ⌜ r ≡ clocked register bit ⌝ }
 {
