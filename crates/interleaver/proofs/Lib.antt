@@ -1,2 +1,3 @@
--- `PlaceLaws`: laws of the places.
+-- `PlaceLaws`: the places and their inverse. `Turns`: one turn of the loops of `places` and `order`.
 pub mod PlaceLaws
+pub mod Turns

@@ -1,20 +1,15 @@
 -- Laws of the interleaver: there are 162 places, each below 162; the place of a coded bit and the coded bit of a place are inverse to
 -- each other.
-use mathlib.Core.Path.{_≡_, refl, sym, ap, _∙_}
-use Prim.Native.Nat.{ℕ, suc, _+_, _-_, _*_, _/_, _%_, _≤_, _<_}
-use native.Mathlib.Omega.{arith}
+use mathlib.Core.Path.{_≡_, refl}
+use Prim.Native.Nat.{ℕ, _-_, _*_, _/_, _%_, _<_}
 use mathlib.Core.Bool.{Bool, true, _&&_}
-use mathlib.Core.List.{List, [], _∷_}
 use lib.Bits.{bitAnd, bitOr}
 use lib.Dec.{eqb, ltb}
-use native.Mathlib.Numerals.{add-one}
-use lib.ListN.{length, getD, drop, set, replicate, length-drop, length-set}
-use lib.Seq.{getD-set-same, getD-set-other}
-use borrow.Author.Tests.{eqb-true, ltb-true, lt-ltb, le-ltb}
+use lib.ListN.{length, getD}
+use borrow.Author.Tests.{eqb-true, ltb-true}
 use Rattle.basics.specs.Lists.{firstFailing}
-use Rattle.basics.proofs.Choice.{both-true, equal-or-not}
-use Rattle.basics.proofs.ListLaws.{length-tabulate, getD-tabulate, by-rule, rest-within, rest-head, rest-tail}
-use Rattle.basics.proofs.Filling.{Filling, fill-starts, fill-turn, fill-ends}
+use Rattle.basics.proofs.Choice.{both-true}
+use Rattle.basics.proofs.ListLaws.{length-tabulate, getD-tabulate}
 use Rattle.basics.proofs.Tables.{every-below, below-at}
 use Rattle.interleaver.specs.Places.{reversedIn, reversed, placesFrom, places, placeOf, orderOf, order}
 
@@ -42,37 +37,35 @@ pub getD-places : (index : ℕ) → getD places index 0 ≡ placeOf index
 unfolding placeOf
 getD-places index = refl
 
--- Of every coded bit: its place is one of 162, and that place's coded bit is this one.
-placed : ℕ → Bool
-placed index = ltb (placeOf index) 162 && eqb (orderOf (placeOf index)) index
+-- One test of all indexes, both ways: f gives one of 162, and g takes it back.
+undone : (ℕ → ℕ) → (ℕ → ℕ) → ℕ → Bool
+undone f g i = ltb (f i) 162 && eqb (g (f i)) i
 
-all-placed : every-below placed 162 ≡ true
-unfolding placed placeOf orderOf places placesFrom reversed reversedIn firstFailing
-all-placed = refl
+undone-at : (f g : ℕ → ℕ) → every-below (undone f g) 162 ≡ true → (i : ℕ) → i < 162 → (f i < 162) × (g (f i) ≡ i)
+unfolding undone
+undone-at f g tested i h =
+    let tests = both-true (ltb (f i) 162) _ (below-at (undone f g) 162 tested i h) in
+    (ltb-true _ _ (tests .0), eqb-true _ _ (tests .1))
+
+places-undone : every-below (undone placeOf orderOf) 162 ≡ true
+unfolding undone placeOf orderOf places placesFrom reversed reversedIn firstFailing
+places-undone = refl
+
+order-undone : every-below (undone orderOf placeOf) 162 ≡ true
+unfolding undone placeOf orderOf places placesFrom reversed reversedIn firstFailing
+order-undone = refl
 
 pub placeOf-below : (index : ℕ) → index < 162 → placeOf index < 162
-unfolding placed
-placeOf-below index h = ltb-true _ _ (both-true (ltb (placeOf index) 162) _ (below-at placed 162 all-placed index h) .0)
+placeOf-below index h = undone-at placeOf orderOf places-undone index h .0
 
 pub orderOf-placeOf : (index : ℕ) → index < 162 → orderOf (placeOf index) ≡ index
-unfolding placed
-orderOf-placeOf index h = eqb-true _ _ (both-true (ltb (placeOf index) 162) _ (below-at placed 162 all-placed index h) .1)
-
--- Of every place: it has one of the 162 coded bits, whose place it is.
-filled : ℕ → Bool
-filled place = ltb (orderOf place) 162 && eqb (placeOf (orderOf place)) place
-
-all-filled : every-below filled 162 ≡ true
-unfolding filled placeOf orderOf places placesFrom reversed reversedIn firstFailing
-all-filled = refl
+orderOf-placeOf index h = undone-at placeOf orderOf places-undone index h .1
 
 pub orderOf-below : (place : ℕ) → place < 162 → orderOf place < 162
-unfolding filled
-orderOf-below place h = ltb-true _ _ (both-true (ltb (orderOf place) 162) _ (below-at filled 162 all-filled place h) .0)
+orderOf-below place h = undone-at orderOf placeOf order-undone place h .0
 
 pub placeOf-orderOf : (place : ℕ) → place < 162 → placeOf (orderOf place) ≡ place
-unfolding filled
-placeOf-orderOf place h = eqb-true _ _ (both-true (ltb (orderOf place) 162) _ (below-at filled 162 all-filled place h) .1)
+placeOf-orderOf place h = undone-at orderOf placeOf order-undone place h .1
 
 pub length-order : length order ≡ 162
 unfolding order
@@ -81,85 +74,3 @@ length-order = length-tabulate 162 orderOf
 pub getD-order : (place : ℕ) → place < 162 → getD order place 0 ≡ orderOf place
 unfolding order
 getD-order place h = getD-tabulate 162 orderOf place h
-
--- ---- The loop that finds the places
-
--- Before a turn: the places of the addresses so far are written, and the others are those of the addresses from here on.
-pub record Placing (now : List ℕ) (counter address : ℕ) : Type 0 where
-  pub within : address ≤ 256
-  pub filled : Filling places now counter
-  pub rest : drop counter places ≡ placesFrom (256 - address) address
-
-pub placing-starts : Placing (replicate 162 0) 0 0
-unfolding places
-placing-starts = record { within = omega arith; filled = fill-starts places (replicate 162 0) (sym length-places); rest = refl }
-
-module _ (now : List ℕ) (counter address : ℕ) (before : address < 256) (turn : Placing now counter address) where
-  pub placing-counter : counter ≤ 162
-  placing-counter = omega (arith, turn .filled .within, length-places)
-
-  -- The places from here on, by whether this address has one.
-  module _ (place : ℕ) (e : place ≡ reversed address) where
-    here : place < 162 → drop counter places ≡ place ∷ placesFrom (256 - (address + 1)) (address + 1)
-    unfolding placesFrom
-    here h =
-        let left : 256 - address ≡ suc (256 - (address + 1)) = omega arith in
-        rw (left, ← e, lt-ltb place 162 h, ← add-one address) at (turn .rest)
-
-    not-here : 162 ≤ place → drop counter places ≡ placesFrom (256 - (address + 1)) (address + 1)
-    unfolding placesFrom
-    not-here h =
-        let left : 256 - address ≡ suc (256 - (address + 1)) = omega arith in
-        rw (left, ← e, le-ltb place 162 h, ← add-one address) at (turn .rest)
-
-    pub placing-room : place < 162 → counter < 162
-    placing-room h = omega (arith, rest-within counter places (here h), length-places)
-
-    pub placing-placed : place < 162 → Placing (set now counter place) (counter + 1) (address + 1)
-    placing-placed h =
-        record {
-          within = omega arith;
-          filled = fill-turn places now counter place (rest-within counter places (here h)) (sym (rest-head counter places (here h))) (turn .filled);
-          rest = rest-tail counter places (here h);
-        }
-
-    pub placing-passed : 162 ≤ place → Placing now counter (address + 1)
-    placing-passed h = record { within = omega arith; filled = turn .filled; rest = not-here h }
-
-pub placing-ends : (now : List ℕ) (counter address : ℕ) → 256 ≤ address → Placing now counter address → now ≡ places
-unfolding placesFrom
-placing-ends now counter address h turn =
-    let over : 256 - address ≡ 0 = omega arith in
-    let none : drop counter places ≡ [] = rw over at (turn .rest) in
-    fill-ends places now counter (omega (arith, ap length none, length-drop counter places)) (turn .filled)
-
--- ---- The loop that inverts them
-
--- Before a turn: the places of the coded bits so far have their indexes.
-pub record Ordering (now : List ℕ) (i : ℕ) : Type 0 where
-  pub same : length now ≡ 162
-  pub done : (k : ℕ) → k < i → getD now (placeOf k) 0 ≡ k
-
-pub ordering-starts : (now : List ℕ) → length now ≡ 162 → Ordering now 0
-ordering-starts now e = record { same = e; done = λ k h. absurd (omega arith) }
-
-pub ordering-turn : (now : List ℕ) (i : ℕ) → i < 162 → Ordering now i → Ordering (set now (placeOf i) i) (i + 1)
-ordering-turn now i h turn =
-    record {
-      same = length-set now (placeOf i) i ∙ turn .same;
-      done =
-          λ k below.
-          equal-or-not k i
-          (λ e. rw e (getD-set-same now (placeOf i) i 0 (omega (arith, turn .same, placeOf-below i h))))
-          (λ other.
-          getD-set-other now (placeOf i) (placeOf k) i 0
-          (λ e. other (sym (orderOf-placeOf k (omega arith)) ∙ ap orderOf e ∙ orderOf-placeOf i h))
-          ∙ turn .done k (omega arith));
-    }
-
-pub ordering-ends : (now : List ℕ) (i : ℕ) → 162 ≤ i → Ordering now i → now ≡ order
-unfolding order
-ordering-ends now i h turn =
-    by-rule 162 orderOf now (turn .same)
-    (λ place below.
-    ap (λ (p : ℕ). getD now p 0) (sym (placeOf-orderOf place below)) ∙ turn .done (orderOf place) (omega (arith, orderOf-below place below)))

@@ -8,7 +8,8 @@ use mathlib.Core.List.{List}
 use lib.ListN.{getD}
 use borrow.Author.Needs.{needs}
 use Rattle.interleaver.specs.Places.{placeOf}
-use Rattle.interleaver.proofs.PlaceLaws.{getD-places, placeOf-below, Ordering, ordering-starts, ordering-turn, ordering-ends}
+use Rattle.interleaver.proofs.PlaceLaws.{getD-places, placeOf-below}
+use Rattle.interleaver.proofs.Turns.{Ordering, ordering-starts, ordering-turn, ordering-ends}
 use Rattle.interleaver.proofs.order.Statement.{statement}
 use Rattle.interleaver.proofs.order.Tie as tie
 

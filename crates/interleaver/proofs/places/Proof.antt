@@ -6,7 +6,7 @@ use Prim.Native.Nat.{_-_}
 use native.Mathlib.Omega.{arith}
 use borrow.Author.Needs.{needs}
 use borrow.Author.Tests.{lt-ltb, le-ltb}
-use Rattle.interleaver.proofs.PlaceLaws.{Placing, placing-starts, placing-counter, placing-room, placing-placed, placing-passed, placing-ends}
+use Rattle.interleaver.proofs.Turns.{Placing, placing-starts, placing-counter, placing-room, placing-placed, placing-passed, placing-ends}
 use Rattle.interleaver.proofs.places.Statement.{statement}
 use Rattle.interleaver.proofs.places.Tie as tie
 
