@@ -89,12 +89,17 @@ clocked-shifted register bit h =
     rw (even, or-shifted (register % 2 ^ 31) 1 bit h)
     (rejoined (clocked register bit) (register % 2 ^ 31) bit (clocked-older register bit h) (clocked-newest register bit h))
 
--- Both registers hold the same bits: from one register on, they stay one.
-pub both-registers : (register bit : ℕ) (bits : List ℕ)
-    → codedFrom register register (bit ∷ bits)
-    ≡ parity firstMask (clocked register bit) ∷ parity secondMask (clocked register bit) ∷ codedFrom (clocked register bit) (clocked register bit) bits
-unfolding codedFrom
-both-registers register bit bits = refl
+-- The coded bits of one register, under both masks.
+unfoldable pub codedWith : ℕ → List ℕ → List ℕ
+codedWith register [] = []
+codedWith register (bit ∷ bits) =
+    parity firstMask (clocked register bit) ∷ parity secondMask (clocked register bit) ∷ codedWith (clocked register bit) bits
+
+-- Both registers hold the same bits, so that one serves for both.
+pub both-registers : (register : ℕ) (bits : List ℕ) → codedFrom register register bits ≡ codedWith register bits
+unfolding codedFrom codedWith
+both-registers register [] = refl
+both-registers register (bit ∷ bits) = rw (both-registers (clocked register bit) bits)
 
 pub length-codedFrom : (first second : ℕ) (bits : List ℕ) → length (codedFrom first second bits) ≡ 2 * length bits
 unfolding codedFrom

@@ -10,7 +10,7 @@ use Rattle.basics.proofs.Choice.{by-test}
 use Rattle.radix.specs.Numeral.{Digits, numberOf}
 use Rattle.radix.proofs.Laws.{number-below, numberOf-digitsOf}
 use Rattle.convolution.specs.Code.{bitsOf, clockedBits, clocked, firstMask, parity, codedFrom, codedBits}
-use Rattle.convolution.specs.Decoding.{nextBit, decodedFrom, decodedWord}
+use Rattle.convolution.specs.Decoding.{nextBit, decodedFrom, decodedWord, OnlyWord}
 use Rattle.convolution.proofs.CodeLaws.{count-bits, positive-bits, bits-in-range, parity-other}
 
 -- ---- One bit
@@ -72,6 +72,9 @@ unfolding decodedWord codedBits clockedBits bitsOf
 decode-encode word h =
     ap (numberOf (replicate 50 2)) (decodedFrom-codedFrom 50 0 (bitsOf 50 word) (replicate 31 0) (bits-in-range 50 word))
     ∙ numberOf-digitsOf (replicate 50 2) (positive-bits 50) (rw (count-bits 50) h)
+
+pub only-word : (coded : List ℕ) → OnlyWord coded (decodedWord coded)
+only-word coded = (decodedWord-below coded, λ other h e. sym (decode-encode other h) ∙ ap decodedWord e)
 
 -- Different words have different coded bits.
 pub encode-injective : (v w : ℕ) → v < 2 ^ 50 → w < 2 ^ 50 → codedBits v ≡ codedBits w → v ≡ w

@@ -11,9 +11,9 @@ use lib.Pow.{pow-mono}
 use Rattle.basics.proofs.ListLaws.{head-at}
 use Rattle.basics.proofs.Filling.{Filling, fill-starts, fill-turn, fill-ends}
 use Rattle.radix.specs.Numeral.{numberFrom, numberOf}
-use Rattle.convolution.specs.Code.{clockedBits, clocked, firstMask, secondMask, parity, codedFrom, codedBits}
+use Rattle.convolution.specs.Code.{clockedBits, clocked, firstMask, secondMask, parity, codedBits}
 use Rattle.convolution.specs.Decoding.{nextBit, decodedFrom, decodedWord}
-use Rattle.convolution.proofs.CodeLaws.{length-clockedBits, length-codedBits, both-registers}
+use Rattle.convolution.proofs.CodeLaws.{length-clockedBits, length-codedBits, codedWith, both-registers}
 use Rattle.convolution.proofs.DecodingLaws.{nextBit-below}
 
 -- ---- encode
@@ -22,7 +22,7 @@ use Rattle.convolution.proofs.DecodingLaws.{nextBit-below}
 pub record Encoding (word : ℕ) (coded : List ℕ) (register step : ℕ) : Type 0 where
   pub within : step ≤ 81
   pub filled : Filling (codedBits word) coded (2 * step)
-  pub rest : drop (2 * step) (codedBits word) ≡ codedFrom register register (drop step (clockedBits word))
+  pub rest : drop (2 * step) (codedBits word) ≡ codedWith register (drop step (clockedBits word))
 
 pub encoding-starts : (word : ℕ) → Encoding word (replicate 162 0) 0 0
 unfolding codedBits
@@ -30,18 +30,15 @@ encoding-starts word =
     record {
       within = omega arith;
       filled = fill-starts (codedBits word) (replicate 162 0) (rw (length-codedBits word));
-      rest = refl;
+      rest = both-registers 0 (clockedBits word);
     }
 
 module _ (word : ℕ) (coded : List ℕ) (register step : ℕ) (before : step < 81) (now : Encoding word coded register step) where
   module _ (next : ℕ) (e : next ≡ clocked register (getD (clockedBits word) step 0)) where
     -- The two coded bits of this step, and those after it.
-    split : drop (2 * step) (codedBits word)
-        ≡ parity firstMask next ∷ parity secondMask next ∷ codedFrom next next (drop (suc step) (clockedBits word))
-    split =
-        now .rest
-        ∙ ap (codedFrom register register) (drop-cons (clockedBits word) step 0 (omega (arith, length-clockedBits word)))
-        ∙ rw e (both-registers register (getD (clockedBits word) step 0) (drop (suc step) (clockedBits word)))
+    split : drop (2 * step) (codedBits word) ≡ parity firstMask next ∷ parity secondMask next ∷ codedWith next (drop (suc step) (clockedBits word))
+    unfolding codedWith
+    split = now .rest ∙ rw (drop-cons (clockedBits word) step 0 (omega (arith, length-clockedBits word)), e)
 
     pub encoding-turn : (first second : ℕ) → first ≡ parity firstMask next → second ≡ parity secondMask next
         → Encoding word (set (set coded (2 * step) first) (2 * step + 1) second) next (step + 1)

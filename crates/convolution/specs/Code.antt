@@ -18,14 +18,14 @@ clockedBits word = bitsOf 50 word ++ replicate 31 0
 unfoldable pub clocked : ℕ → ℕ → ℕ
 clocked register bit = (register * 2 + bit) % 2 ^ 32
 
--- "The first register under mask F2D05351 (hexadecimal), then .. the second under E4613C47"
+-- "the parity of the first register under mask F2D05351 (hexadecimal), then of the second under E4613C47": the masks.
 unfoldable pub firstMask : ℕ
 firstMask = 0xF2D0_5351
 
 unfoldable pub secondMask : ℕ
 secondMask = 0xE461_3C47
 
--- "the parity of the .. register under mask"
+-- The parity of a register under a mask: how many of the bits that both have are 1, modulo 2.
 unfoldable pub parity : ℕ → ℕ → ℕ
 parity mask register = ones (bitAnd register mask) % 2
 

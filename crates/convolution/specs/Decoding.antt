@@ -1,12 +1,13 @@
--- Back from coded bits: the one word that may have them. 01 has no words for this direction, and none has to be believed: `decode-encode`
--- and `encode-injective` (proofs/DecodingLaws.antt) say that no other word can.
-use Prim.Native.Nat.{ℕ, zero, suc}
+-- Back from coded bits: the one word that may have them. 01 has no words for this direction, and none has to be believed: `OnlyWord`, which
+-- `decode` promises, leaves no other.
+use mathlib.Core.Path.{_≡_}
+use Prim.Native.Nat.{ℕ, zero, suc, _^_, _<_}
 use mathlib.Core.Bool.{cond}
 use mathlib.Core.List.{List, [], _∷_}
 use lib.Dec.{eqb}
 use lib.ListN.{getD, drop, replicate}
 use Rattle.radix.specs.Numeral.{numberOf}
-use Rattle.convolution.specs.Code.{firstMask, clocked, parity}
+use Rattle.convolution.specs.Code.{firstMask, clocked, parity, codedBits}
 
 -- The bit that gives the first coded bit, clocked next into the register: 0 or else 1. The mask's lowest bit is 1, so that the two give
 -- different coded bits.
@@ -23,3 +24,7 @@ decodedFrom (suc n) register coded =
 -- The word of the 50 bits, highest first.
 unfoldable pub decodedWord : List ℕ → ℕ
 decodedWord coded = numberOf (replicate 50 2) (decodedFrom 50 0 coded)
+
+-- It is a 50-bit word, and no other 50-bit word has these coded bits.
+abbrev pub OnlyWord : List ℕ → ℕ → Type 0
+OnlyWord coded word = (word < 2 ^ 50) × ((other : ℕ) → other < 2 ^ 50 → codedBits other ≡ coded → other ≡ word)

@@ -3,14 +3,14 @@ ghost use mathlib.Core.Path.{_≡_};
 ghost use Prim.Native.Nat.{_<_};
 ghost use lib.ListN.{getD};
 ghost use Rattle.convolution.specs.Code.{firstMask, secondMask, clocked, parity, clockedBits, codedBits};
-ghost use Rattle.convolution.specs.Decoding.{nextBit, decodedWord};
+ghost use Rattle.convolution.specs.Decoding.{nextBit, decodedWord, OnlyWord};
 
 const FIRST_MASK: u32 = 0xF2D0_5351;
 
 const SECOND_MASK: u32 = 0xE461_3C47;
 
 // The parity of a masked register, 0 or 1.
-fn parity(register: u32, mask: u32) -> u8
+fn parity(mask: u32, register: u32) -> u8
     ensures { λ r. ⌜ r ≡ parity mask register ⌝ }
 {
     (u32::count_ones(register & mask) % 2) as u8
@@ -20,14 +20,14 @@ fn parity(register: u32, mask: u32) -> u8
 fn first_coded(register: u32) -> u8
     ensures { λ r. ⌜ r ≡ parity firstMask register ⌝ }
 {
-    parity(register, FIRST_MASK)
+    parity(FIRST_MASK, register)
 }
 
 // The second coded bit of a register.
 fn second_coded(register: u32) -> u8
     ensures { λ r. ⌜ r ≡ parity secondMask register ⌝ }
 {
-    parity(register, SECOND_MASK)
+    parity(SECOND_MASK, register)
 }
 
 // The register after a bit: shifted left, the new bit lowest. Both registers of the definition hold
@@ -55,7 +55,7 @@ fn clocked_bit(word: u64, step: usize) -> u8
 pub fn encode(word: u64) -> [u8; 162]
     ensures { λ r. ⌜ r ≡ codedBits word ⌝ }
 {
-    let mut coded = basics::zeros();
+    let mut coded = [0u8; 162];
     let mut register: u32 = 0;
     let mut step = 0;
     while step < 81 {
@@ -80,7 +80,8 @@ fn next_bit(register: u32, coded: u8) -> u8
 
 // The only word below 2^50 that may have these coded bits.
 pub fn decode(coded: [u8; 162]) -> u64
-    ensures { λ r. ⌜ r ≡ decodedWord coded ⌝ }
+    ensures answer { λ r. ⌜ r ≡ decodedWord coded ⌝ }
+    ensures only { λ r. ⌜ OnlyWord coded r ⌝ }
 {
     let mut word: u64 = 0;
     let mut register: u32 = 0;

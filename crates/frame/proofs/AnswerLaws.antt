@@ -6,7 +6,7 @@ use mathlib.Core.Bool.{not}
 use mathlib.Core.List.{List}
 use lib.Dec.{eqb, leb, ltb}
 use lib.ListN.{length}
-use borrow.Author.Tests.{not-false, le-leb, leb-false, lt-leb, lt-ltb, le-ltb, eq-eqb, ne-eqb, eqb-true}
+use borrow.Author.Tests.{not-false, le-leb, leb-false, lt-leb, lt-ltb, le-ltb, ltb-false, eq-eqb, ne-eqb, eqb-true}
 use Rattle.basics.specs.Lists.{sameList}
 use Rattle.basics.proofs.Choice.{cond-passed, cond-held, cond-both, by-test}
 use Rattle.basics.proofs.ListLaws.{sameList-equal, sameList-itself}
@@ -21,11 +21,11 @@ use Rattle.convolution.specs.Code.{codedBits}
 use Rattle.convolution.specs.Decoding.{decodedWord}
 use Rattle.convolution.proofs.DecodingLaws.{decodedWord-below}
 use Rattle.frame.specs.Symbols.{frameOf, receivedBits}
-use Rattle.frame.specs.Answer.{wordWritten, writtenAs, messageWritten, frameAfter, frameAfterWord, frameAfterMessage, firstLarge, firstWrongSync, wordOfData, wordRead, messageFrom, messageRead, writtenRefusal, readNumbers}
+use Rattle.frame.specs.Answer.{wordWritten, writtenAs, messageWritten, frameAfter, frameAfterWord, frameAfterMessage, firstLarge, firstWrongSync, wordOfData, wordRead, messageFrom, messageRead, writtenRefusal, refusalOf, readNumbers}
 use Rattle.frame.specs.RoundTrip.{RightForm}
 use Rattle.frame.specs.declared.Written.{Written}
 use Rattle.frame.specs.declared.Read.{Read}
-use Rattle.frame.proofs.SymbolLaws.{received-frameOf, decoded-frameOf, frame-right-form, frame-by-data, none-large, none-wrong}
+use Rattle.frame.proofs.SymbolLaws.{received-frameOf, decoded-frameOf, frame-right-form, frame-by-data, form-of-tests, none-large, none-wrong}
 
 -- ---- The cases of writing from a word
 
@@ -150,6 +150,20 @@ module _ (frame : List ℕ) where
       let same = cond-held (sameList (frameOf its-word) frame) (wrong .1) (refused-not-word _ word) in
       let is : its-word ≡ word = cc in
       (rw (← is) (decodedWord-below (receivedBits frame)), rw (← is) (sameList-equal (frameOf its-word) frame (same .0)))
+
+-- Refusals with different numbers differ.
+other-number : (m n p q : ℕ) → (m ≡ n → ⊥) → Read.Refused (refusal m p) ≡ Read.Refused (refusal n q) → ⊥
+unfolding refusalOf
+other-number m n p q other e = other (ap (λ (a : Read). refusalOf a .number) e)
+
+-- A frame that is refused 9 has the right form.
+pub form-of-none : (frame : List ℕ) → wordRead frame ≡ Read.Refused (refusal noWord 0) → RightForm frame
+unfolding wordRead
+form-of-none frame e =
+    let lengths = cond-passed (not (eqb (length frame) 162)) e (other-number wrongLength noWord 0 0 (λ z. omega arith)) in
+    let large = cond-passed (ltb (firstLarge frame) 162) (lengths .1) (other-number symbolTooLarge noWord _ 0 (λ z. omega arith)) in
+    let wrong = cond-passed (ltb (firstWrongSync frame) 162) (large .1) (other-number wrongSync noWord _ 0 (λ z. omega arith)) in
+    form-of-tests frame (eqb-true _ _ (not-false _ (lengths .0))) (ltb-false _ _ (large .0)) (ltb-false _ _ (wrong .0))
 
 -- A word's frame reads as the word.
 pub read-frameOf : (word : ℕ) → word < 2 ^ 50 → wordRead (frameOf word) ≡ Read.Word word

@@ -2,7 +2,6 @@
 use mathlib.Core.Path.{_≡_, refl, sym, _∙_, subst}
 use Prim.Native.Nat.{ℕ, _^_, _<_}
 use mathlib.Core.Bool.{not}
-use native.Mathlib.Omega.{arith}
 use mathlib.Core.List.{List}
 use lib.ListN.{length}
 use Rattle.basics.specs.Lists.{sameList}
@@ -14,17 +13,17 @@ use Rattle.message.specs.Word.{wordOf, callsignOf, locatorOf}
 use Rattle.message.specs.RoundTrip.{IsRefused}
 use Rattle.message.specs.declared.Packed.{Packed}
 use Rattle.message.specs.declared.Unpacked.{Unpacked}
-use Rattle.message.proofs.AnswerLaws.{right-lengths, unpacked-read}
+use Rattle.message.proofs.AnswerLaws.{right-lengths, unpacked-read, refused-no-power}
 use Rattle.message.proofs.RoundTripLaws.{unpack-pack, pack-unpack}
 use Rattle.convolution.specs.Decoding.{decodedWord}
 use Rattle.convolution.proofs.DecodingLaws.{decodedWord-below}
 use Rattle.frame.specs.Symbols.{frameOf, receivedBits}
 use Rattle.frame.specs.Answer.{wordWritten, messageWritten, frameAfter, frameAfterWord, frameAfterMessage, wordOfData, wordRead, messageFrom, callsignFrom, locatorFrom, messageRead, callsignRead, locatorRead}
-use Rattle.frame.specs.RoundTrip.{WordReadsBack, WordWritesBack, NeverFromWord, ReadRefused, WordRefusedExactly, NoWordRefused, ReadsAsMessage, MessageReadsBack, WritesAs, MessageWritesBack, NeverFromMessage, MessageRefusedExactly}
+use Rattle.frame.specs.RoundTrip.{WordReadsBack, WordWritesAs, WordWritesBack, NeverFromWord, ReadRefused, WordRefusedExactly, NoWordRefused, ReadsAsMessage, MessageReadsBack, MessageWritesAs, MessageWritesBack, NeverFromMessage, MessageRefusedExactly}
 use Rattle.frame.specs.declared.Written.{Written}
 use Rattle.frame.specs.declared.Read.{Read}
 use Rattle.frame.proofs.SymbolLaws.{length-frameOf, frameOf-injective}
-use Rattle.frame.proofs.AnswerLaws.{written-done, done-of-word, after-word-done, message-done, done-of-message, after-message-done, word-of-read, read-frameOf, read-form}
+use Rattle.frame.proofs.AnswerLaws.{written-done, done-of-word, after-word-done, message-done, done-of-message, after-message-done, word-of-read, form-of-none, read-frameOf, read-form}
 
 -- ---- A word and its frame
 
@@ -38,11 +37,17 @@ word-reads-back frame word = go (wordWritten frame word) refl
         (record { its-word = read-frameOf word below; no-other = λ other h same. frameOf-injective other word h below same })
     go (Written.Refused f) e = tt
 
+-- A word with this frame writes it.
+word-writes-as : (word : ℕ) (frame : List ℕ) → word < 2 ^ 50 → frameOf word ≡ frame → WordWritesAs word frame
+word-writes-as word frame h same before right =
+    let done = written-done before word right h in
+    (done, after-word-done before word done ∙ same)
+
 pub word-writes-back : (frame : List ℕ) → WordWritesBack (wordRead frame) frame
 word-writes-back frame = go (wordRead frame) refl
   where
     go : (answer : Read) → wordRead frame ≡ answer → WordWritesBack answer frame
-    go (Read.Word w) e = word-of-read frame w e
+    go (Read.Word w) e = let made = word-of-read frame w e in word-writes-as w frame (made .0) (made .1)
     go (Read.Refused f) e = tt
 
 -- A frame that some word has isn't refused.
@@ -59,16 +64,16 @@ word-refused-exactly frame = (never, λ none. exact (wordRead frame) refl none)
     exact : (answer : Read) → wordRead frame ≡ answer → NeverFromWord frame → ReadRefused answer
     exact (Read.Word w) e none =
         let made = word-of-read frame w e in
-        let done = written-done (frameOf w) w (length-frameOf w) (made .0) in
-        none (frameOf w) w done (after-word-done (frameOf w) w done ∙ made .1)
+        let written = word-writes-as w frame (made .0) (made .1) (frameOf w) (length-frameOf w) in
+        none (frameOf w) w (written .0) (written .1)
     exact (Read.Refused f) e none = tt
 
--- Refusal 9, of frames of the right form.
+-- Refusal 9.
 pub no-word-refused : (frame : List ℕ) → NoWordRefused (wordRead frame) frame
 unfolding wordOfData
-no-word-refused frame form = (
-  λ e word h same. word-not-refused frame word h same (subst ReadRefused (sym e) tt),
-  λ none.
+no-word-refused frame = (
+  λ e. (form-of-none frame e, λ word h same. word-not-refused frame word h same (subst ReadRefused (sym e) tt)),
+  λ (form, none).
       let word = decodedWord (receivedBits frame) in
       read-form frame form
       ∙ by-test (sameList (frameOf word) frame)
@@ -101,25 +106,22 @@ message-reads-back callsign locator power frame = go (messageWritten callsign lo
 
 -- A message with this word writes its frame.
 writes-as : (callsign locator : List ℕ) (power word : ℕ) (frame : List ℕ) → packed callsign locator power ≡ Packed.Word word
-    → frameOf word ≡ frame → WritesAs callsign locator power frame
+    → frameOf word ≡ frame → MessageWritesAs callsign locator power frame
 writes-as callsign locator power word frame made same before right =
     let written = message-done callsign locator power before word right made in
     (written .0, written .1 ∙ same)
 
-refused-not-power : (f : Refusal) (power : ℕ) → Unpacked.Refused f ≡ Unpacked.Power power → ⊥
-refused-not-power f power e = let z : _≡_ {A = ℕ} 0 1 = cc in omega arith
-
 -- The answer with a power is that of a frame with a word that has that power.
 power-of-read : (frame c l : List ℕ) (power : ℕ) → messageRead frame c l ≡ Unpacked.Power power
-    → WritesAs (callsignRead frame c l) (locatorRead frame c l) power frame
+    → MessageWritesAs (callsignRead frame c l) (locatorRead frame c l) power frame
 unfolding messageRead callsignRead locatorRead messageFrom callsignFrom locatorFrom callsignAfter locatorAfter contentAfter unpacked
 power-of-read frame c l power = go (wordRead frame) refl
   where
     go : (answer : Read) → wordRead frame ≡ answer → messageFrom answer c l ≡ Unpacked.Power power
-        → WritesAs (callsignFrom answer c l) (locatorFrom answer c l) power frame
-    go (Read.Refused f) e read = absurd (refused-not-power f power read)
+        → MessageWritesAs (callsignFrom answer c l) (locatorFrom answer c l) power frame
+    go (Read.Refused f) e read = absurd (refused-no-power f power read)
     go (Read.Word w) e read =
-        let its-power = cond-passed (not (rightLengths (length c) (length l))) read (refused-not-power _ power) .1 in
+        let its-power = cond-passed (not (rightLengths (length c) (length l))) read (refused-no-power _ power) .1 in
         rw read (writes-as (callsignOf w) (locatorOf w) power w frame (pack-unpack w power its-power) (word-of-read frame w e .1))
 
 pub message-writes-back : (frame c l : List ℕ)

@@ -4,7 +4,7 @@ use Prim.Native.Nat.{ℕ, _+_, _*_, _/_, _%_, _^_, _≤_, _<_}
 use native.Mathlib.Omega.{arith}
 use mathlib.Core.Bool.{Bool}
 use mathlib.Core.List.{List}
-use lib.Dec.{eqb, leb, ltb}
+use lib.Dec.{ltb}
 use lib.ListN.{length, getD, drop}
 use lib.Seq.{ext-getD}
 use borrow.Author.Tests.{ltb-true, leb-true, eqb-true, le-leb, eq-eqb}
@@ -18,7 +18,7 @@ use Rattle.convolution.proofs.DecodingLaws.{decode-encode}
 use Rattle.interleaver.specs.Places.{placeOf, orderOf}
 use Rattle.interleaver.proofs.PlaceLaws.{placeOf-below, orderOf-below, orderOf-placeOf, placeOf-orderOf}
 use Rattle.frame.specs.Symbols.{syncVector, syncAt, symbolAt, frameOf, receivedBits}
-use Rattle.frame.specs.Answer.{firstLarge, firstWrongSync}
+use Rattle.frame.specs.Answer.{small, firstLarge, synced, firstWrongSync}
 use Rattle.frame.specs.RoundTrip.{RightForm}
 
 -- ---- Symbols
@@ -110,13 +110,6 @@ frame-by-data word frame form e =
 -- Before a turn: the first wrong place from here on is that of the whole frame.
 abbrev pub Searching : (ℕ → ℕ → Bool) → List ℕ → ℕ → Type 0
 Searching test frame place = (place ≤ length frame) × (firstFailing test place (drop place frame) ≡ firstFailing test 0 frame)
-
--- A symbol is at most 3; its sync bit is right.
-abbrev pub small : ℕ → ℕ → Bool
-small place symbol = leb symbol 3
-
-abbrev pub synced : ℕ → ℕ → Bool
-synced place symbol = eqb (symbol % 2) (syncAt place)
 
 -- ---- The right form, by the first place that hasn't it
 

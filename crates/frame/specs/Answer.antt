@@ -1,6 +1,6 @@
 -- What writing and strictly reading a frame answer, for every input, and what the lent buffers then hold.
 use Prim.Native.Nat.{ℕ, _%_, _^_}
-use mathlib.Core.Bool.{cond, not}
+use mathlib.Core.Bool.{Bool, cond, not}
 use mathlib.Core.List.{List}
 use lib.Dec.{eqb, leb, ltb}
 use lib.ListN.{length}
@@ -50,12 +50,18 @@ frameAfterMessage callsign locator power frame =
 -- ---- Strict reading to the word: "strict frame 1, 7, 8, 9"
 
 -- "a symbol is above 3": the first such.
+abbrev pub small : ℕ → ℕ → Bool
+small place symbol = leb symbol 3
+
 unfoldable pub firstLarge : List ℕ → ℕ
-firstLarge frame = firstFailing (λ place symbol. leb symbol 3) 0 frame
+firstLarge frame = firstFailing small 0 frame
 
 -- "a sync bit is wrong": the first such. The sync bit is the symbol modulo 2.
+abbrev pub synced : ℕ → ℕ → Bool
+synced place symbol = eqb (symbol % 2) (syncAt place)
+
 unfoldable pub firstWrongSync : List ℕ → ℕ
-firstWrongSync frame = firstFailing (λ place symbol. eqb (symbol % 2) (syncAt place)) 0 frame
+firstWrongSync frame = firstFailing synced 0 frame
 
 -- "no 50-bit word has this frame": only one word may have it, the one that its data bits determine.
 unfoldable pub wordOfData : List ℕ → Read

@@ -25,9 +25,14 @@ abbrev pub WordReadsBack : Written → ℕ → List ℕ → Type 0
 WordReadsBack Written.Done word frame = ReadsAsWord frame word
 WordReadsBack (Written.Refused f) word frame = Unit
 
--- What was read writes back: over any lent frame of 162 bytes.
+-- Writing from this word makes this frame, over any lent frame of 162 bytes.
+abbrev pub WordWritesAs : ℕ → List ℕ → Type 0
+WordWritesAs word frame =
+    (before : List ℕ) → length before ≡ 162 → (wordWritten before word ≡ Written.Done) × (frameAfterWord before word ≡ frame)
+
+-- What was read writes back.
 abbrev pub WordWritesBack : Read → List ℕ → Type 0
-WordWritesBack (Read.Word w) frame = (w < 2 ^ 50) × (frameOf w ≡ frame)
+WordWritesBack (Read.Word w) frame = WordWritesAs w frame
 WordWritesBack (Read.Refused f) frame = Unit
 
 -- Writing from a word never makes this frame.
@@ -49,10 +54,13 @@ pub record RightForm (frame : List ℕ) : Type 0 where
   pub symbols-to-3 : (place : ℕ) → place < 162 → getD frame place 0 ≤ 3
   pub right-sync : (place : ℕ) → place < 162 → getD frame place 0 % 2 ≡ syncAt place
 
--- Of those, refusal 9 is given exactly where no 50-bit word has the frame.
+-- "no 50-bit word has this frame"
+abbrev pub NoWord : List ℕ → Type 0
+NoWord frame = (word : ℕ) → word < 2 ^ 50 → frameOf word ≡ frame → ⊥
+
+-- Refusal 9 is given exactly where the form is right, so that 1, 7 and 8 do not apply, and no word has the frame.
 abbrev pub NoWordRefused : Read → List ℕ → Type 0
-NoWordRefused answer frame =
-    RightForm frame → (answer ≡ Read.Refused (refusal noWord 0)) ↔ ((word : ℕ) → word < 2 ^ 50 → frameOf word ≡ frame → ⊥)
+NoWordRefused answer frame = (answer ≡ Read.Refused (refusal noWord 0)) ↔ (RightForm frame × NoWord frame)
 
 -- ---- A message and its frame
 
@@ -68,14 +76,14 @@ MessageReadsBack Written.Done callsign locator power frame = ReadsAsMessage fram
 MessageReadsBack (Written.Refused f) callsign locator power frame = Unit
 
 -- Writing from a message makes this frame, over any lent frame of 162 bytes.
-abbrev pub WritesAs : List ℕ → List ℕ → ℕ → List ℕ → Type 0
-WritesAs callsign locator power frame =
+abbrev pub MessageWritesAs : List ℕ → List ℕ → ℕ → List ℕ → Type 0
+MessageWritesAs callsign locator power frame =
     (before : List ℕ) → length before ≡ 162
     → (messageWritten callsign locator power before ≡ Written.Done) × (frameAfterMessage callsign locator power before ≡ frame)
 
 -- What was read writes back.
 abbrev pub MessageWritesBack : Unpacked → List ℕ → List ℕ → List ℕ → Type 0
-MessageWritesBack (Unpacked.Power p) frame callsign locator = WritesAs callsign locator p frame
+MessageWritesBack (Unpacked.Power p) frame callsign locator = MessageWritesAs callsign locator p frame
 MessageWritesBack (Unpacked.Refused f) frame callsign locator = Unit
 
 -- Writing from a message never makes this frame.

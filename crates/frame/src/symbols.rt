@@ -1,6 +1,6 @@
 // The symbols of a frame: each a sync bit and a data bit, and the coded bits behind the data.
 ghost use mathlib.Core.Path.{_≡_};
-ghost use Prim.Native.Nat.{_≤_, _<_};
+ghost use Prim.Native.Nat.{_≤_};
 ghost use lib.ListN.{length};
 ghost use Rattle.frame.specs.Symbols.{frameOf, receivedBits};
 ghost use Rattle.frame.specs.Answer.{firstLarge, firstWrongSync, wordOfData};
@@ -60,7 +60,7 @@ fn received_bits(frame: &[u8]) -> [u8; 162]
     ensures { λ r. ⌜ r ≡ receivedBits (now (frame .entry)) ⌝ }
 {
     let places = interleaver::places();
-    let mut received = basics::zeros();
+    let mut received = [0u8; 162];
     let mut i = 0;
     while i < 162 {
         received[i] = frame[places[i] as usize] / 2;

@@ -3,13 +3,14 @@
 use mathlib.Core.Path.{_≡_, refl}
 use Prim.Native.Nat.{ℕ, _-_, _*_, _/_, _%_, _<_}
 use mathlib.Core.Bool.{Bool, true, _&&_}
+use mathlib.Core.List.{[], _∷_}
 use lib.Bits.{bitAnd, bitOr}
 use lib.Dec.{eqb, ltb}
-use lib.ListN.{length, getD}
+use lib.ListN.{length, getD, take}
 use borrow.Author.Tests.{eqb-true, ltb-true}
 use Rattle.basics.specs.Lists.{firstFailing}
 use Rattle.basics.proofs.Choice.{both-true}
-use Rattle.basics.proofs.ListLaws.{length-tabulate, getD-tabulate}
+use Rattle.basics.proofs.ListLaws.{getD-tabulate}
 use Rattle.basics.proofs.Tables.{every-below, below-at}
 use Rattle.interleaver.specs.Places.{reversedIn, reversed, placesFrom, places, placeOf, orderOf, order}
 
@@ -32,6 +33,11 @@ exchanged-reversed address h = eqb-true _ _ (below-at (λ a. eqb (exchanged a) (
 pub length-places : length places ≡ 162
 unfolding places placesFrom reversed reversedIn
 length-places = refl
+
+-- "So S0, S1, S2, S3 go to places 0, 128, 64, 32."
+first-places : take 4 places ≡ 0 ∷ 128 ∷ 64 ∷ 32 ∷ []
+unfolding places placesFrom reversed reversedIn
+first-places = refl
 
 pub getD-places : (index : ℕ) → getD places index 0 ≡ placeOf index
 unfolding placeOf
@@ -66,10 +72,6 @@ orderOf-below place h = undone-at orderOf placeOf order-undone place h .0
 
 pub placeOf-orderOf : (place : ℕ) → place < 162 → placeOf (orderOf place) ≡ place
 placeOf-orderOf place h = undone-at orderOf placeOf order-undone place h .1
-
-pub length-order : length order ≡ 162
-unfolding order
-length-order = length-tabulate 162 orderOf
 
 pub getD-order : (place : ℕ) → place < 162 → getD order place 0 ≡ orderOf place
 unfolding order

@@ -23,14 +23,15 @@ placesFrom (suc n) i =
     let rest = placesFrom n (suc i) in
     cond (ltb (reversed i) 162) (reversed i ∷ rest) rest
 
--- The place of each coded bit, in coded order: "S0, S1, S2, S3 go to places 0, 128, 64, 32."
+-- The place of each coded bit, in coded order: "So S0, S1, S2, S3 go to places 0, 128, 64, 32."
 unfoldable pub places : List ℕ
 places = placesFrom 256 0
 
 unfoldable pub placeOf : ℕ → ℕ
 placeOf index = getD places index 0
 
--- Its inverse: the index of the coded bit that goes to a place.
+-- Its inverse: the index of the coded bit that goes to a place. That each undoes the other is `orderOf-placeOf` and `placeOf-orderOf` of
+-- proofs/PlaceLaws.antt.
 unfoldable pub orderOf : ℕ → ℕ
 orderOf place = firstFailing (λ index p. not (eqb p place)) 0 places
 

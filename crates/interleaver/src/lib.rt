@@ -1,4 +1,4 @@
-// The interleaver: the place of each coded bit in a frame, and the coded bit of each place.
+// The interleaver: the place of each coded bit in a frame, and the index of each place's coded bit.
 ghost use mathlib.Core.Path.{_≡_};
 ghost use mathlib.Core.Bool.{cond};
 ghost use Prim.Native.Nat.{_+_, _<_};
@@ -26,7 +26,7 @@ fn moved(counter: usize, place: u8) -> usize
 pub fn places() -> [u8; 162]
     ensures { λ r. ⌜ r ≡ places ⌝ }
 {
-    let mut places = basics::zeros();
+    let mut places = [0u8; 162];
     let mut counter = 0;
     let mut address: usize = 0;
     while address < 256 {
@@ -40,12 +40,12 @@ pub fn places() -> [u8; 162]
     places
 }
 
-// The coded bit of each place.
+// The index of each place's coded bit.
 pub fn order() -> [u8; 162]
     ensures { λ r. ⌜ r ≡ order ⌝ }
 {
     let places = places();
-    let mut order = basics::zeros();
+    let mut order = [0u8; 162];
     let mut i = 0;
     while i < 162 {
         order[places[i] as usize] = i as u8;

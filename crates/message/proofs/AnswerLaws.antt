@@ -137,7 +137,7 @@ pub record Readable (word power : ℕ) : Type 0 where
   pub is-power : power ≡ powerPart word - 64
   pub power-legal : legalPower power ≡ true
 
-refused-no-power : (f : Refusal) (power : ℕ) → Unpacked.Refused f ≡ Unpacked.Power power → ⊥
+pub refused-no-power : (f : Refusal) (power : ℕ) → Unpacked.Refused f ≡ Unpacked.Power power → ⊥
 refused-no-power f power e = let z : _≡_ {A = ℕ} 0 1 = cc in omega arith
 
 pub readable : (word power : ℕ) → wordAnswer word ≡ Unpacked.Power power → Readable word power
@@ -189,12 +189,13 @@ unpacked-answered callsign locator word =
     (cond-both P (leb 32_400 (locatorPart word)) (λ z. absurd (omega arith))
     (cond-both P (ltb (powerPart word) 64 || not (legalPower (powerPart word - 64))) (λ z. absurd (omega arith)) (λ z. refl))))
 
+pub nonzero-refused : (answer : Unpacked) → (unpackedNumbers answer .number ≡ 0 → ⊥) → IsRefused answer
+unfolding unpackedNumbers
+nonzero-refused (Unpacked.Power p) nonzero = nonzero refl
+nonzero-refused (Unpacked.Refused f) nonzero = tt
+
 pub refused-number : (callsign locator : List ℕ) (word : ℕ)
     → IsRefused (unpacked callsign locator word) ↔ (unpackedNumbers (unpacked callsign locator word) .number ≡ 0 → ⊥)
 unfolding unpackedNumbers
 refused-number callsign locator word =
-    (λ refused zero. rw (unpacked-answered callsign locator word zero) at refused, λ nonzero. go (unpacked callsign locator word) nonzero)
-  where
-    go : (answer : Unpacked) → (unpackedNumbers answer .number ≡ 0 → ⊥) → IsRefused answer
-    go (Unpacked.Power p) nonzero = nonzero refl
-    go (Unpacked.Refused f) nonzero = tt
+    (λ refused zero. rw (unpacked-answered callsign locator word zero) at refused, λ nonzero. nonzero-refused (unpacked callsign locator word) nonzero)

@@ -18,7 +18,7 @@ rightLengths callsign locator = eqb callsign 6 && eqb locator 4
 
 -- ---- From a message to its word
 
--- "If several apply, the order is: triple 1, 2, 3"; "within one number, the lowest place".
+-- "If several apply, the order is: triple 1, 2, 3"; "Within one number, the lowest place."
 unfoldable pub packed : List ℕ → List ℕ → ℕ → Packed
 packed callsign locator power =
     let bad = firstBad 0 (callsign ++ locator) in

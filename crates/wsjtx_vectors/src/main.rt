@@ -27,13 +27,13 @@ use output::print_written;
 use vector::Vector;
 
 fn print_frame_of_message(callsign: &[u8], locator: &[u8], power: u32) {
-    let mut symbols = basics::zeros();
+    let mut symbols = [0u8; 162];
     let written = frame::write_message(callsign, locator, power, &mut symbols);
     print_written(written, &symbols);
 }
 
 fn print_frame_of_word(word: u64) {
-    let mut symbols = basics::zeros();
+    let mut symbols = [0u8; 162];
     let written = frame::write_word(word, &mut symbols);
     print_written(written, &symbols);
 }

@@ -10,7 +10,8 @@ pub(crate) enum Number {
     Malformed,
 }
 
-// The value of a decimal or lower-case hexadecimal digit; of any other byte 16, which no base has.
+// The value of a decimal or lower-case hexadecimal digit; of any other byte 16, which is no
+// digit of any base.
 pub(crate) fn digit_value(byte: u8) -> u64
     ensures { λ r. ⌜ r ≡ digitValue byte ⌝ }
 {

@@ -72,7 +72,7 @@ pub(crate) fn read_symbols(text: &[u8]) -> [u8; 162]
     requires { ⌜ length (now text) ≡ 162 ⌝ }
     ensures { λ r. ⌜ r ≡ symbolsIn (now (text .entry)) ⌝ }
 {
-    let mut symbols = basics::zeros();
+    let mut symbols = [0u8; 162];
     let mut i = 0;
     while i < 162 {
         symbols[i] = digit_value(text[i]) as u8;

@@ -5,6 +5,7 @@ use mathlib.Core.List.{List}
 use Rattle.message.specs.Answer.{unpackedNumbers}
 use Rattle.message.specs.RoundTrip.{IsRefused}
 use Rattle.message.specs.declared.Unpacked.{Unpacked}
+use Rattle.message.proofs.AnswerLaws.{nonzero-refused}
 use Rattle.refusal.specs.Refusals.{refusal, noWord}
 use Rattle.frame.specs.Answer.{wordWritten, messageWritten, frameAfterWord, frameAfterMessage, wordRead, messageRead, callsignRead, locatorRead, readNumbers}
 use Rattle.frame.specs.RoundTrip.{WordReadsBack, WordWritesBack, ReadRefused, MessageReadsBack, MessageWritesBack}
@@ -40,16 +41,11 @@ write-message-results callsign locator power frame answer content r result (e, (
 
 -- ---- Reading
 
--- An answer is a refusal exactly where its number isn't 0.
+-- An answer whose number isn't 0 is a refusal.
 read-refused : (answer : Read) → (readNumbers answer .number ≡ 0 → ⊥) → ReadRefused answer
 unfolding readNumbers
 read-refused (Read.Word w) nonzero = nonzero refl
 read-refused (Read.Refused f) nonzero = tt
-
-message-refused : (answer : Unpacked) → (unpackedNumbers answer .number ≡ 0 → ⊥) → IsRefused answer
-unfolding unpackedNumbers
-message-refused (Unpacked.Power p) nonzero = nonzero refl
-message-refused (Unpacked.Refused f) nonzero = tt
 
 pub read-word-results : (frame : List ℕ) (answer : Read) (r : WsprWord) → r ≡ wordResult (readNumbers answer) → ReadWordPromised frame answer
     → (r ≡ wordResult (readNumbers (wordRead frame))) × (WordWritesFrame r frame × (FrameRefusedExactly r frame × NoWordExactly r frame))
@@ -64,7 +60,7 @@ read-word-results frame answer r result (e, (back, (exactly, none))) =
     ) in
     let is-none : readNumbers answer .number ≡ noWord → answer ≡ Read.Refused (refusal noWord 0) = rw e (read-none frame) in
     let nine : NoWordExactly (wordResult (readNumbers answer)) frame =
-    λ form. (λ n. none form .0 (is-none n), λ no-word. ap (λ (a : Read). readNumbers a .number) (none form .1 no-word)) in
+    (λ n. none .0 (is-none n), λ given. ap (λ (a : Read). readNumbers a .number) (none .1 given)) in
     rw result (ap (λ (a : Read). wordResult (readNumbers a)) e, (writes, (refuses, nine)))
 
 pub read-message-results : (frame callsign locator : List ℕ) (answer : Unpacked) (its-callsign its-locator : List ℕ) (r : WsprMessage)
@@ -80,5 +76,5 @@ read-message-results frame callsign locator answer its-callsign its-locator r re
     let writes : MessageWritesFrame (messageResult (unpackedNumbers answer)) frame its-callsign its-locator =
     λ z. subst (λ (a : Unpacked). MessageWritesBack a frame its-callsign its-locator) (answered z) back in
     let refuses : MessageFrameRefusedExactly (messageResult (unpackedNumbers answer)) frame callsign locator =
-    λ six four. (λ nonzero. exactly six four .0 (message-refused answer nonzero), λ never z. subst IsRefused (answered z) (exactly six four .1 never)) in
+    λ six four. (λ nonzero. exactly six four .0 (nonzero-refused answer nonzero), λ never z. subst IsRefused (answered z) (exactly six four .1 never)) in
     rw result (ap (λ (a : Unpacked). messageResult (unpackedNumbers a)) e, (call, (loc, (writes, refuses))))

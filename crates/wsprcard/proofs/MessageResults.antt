@@ -9,18 +9,18 @@ use Rattle.message.specs.declared.Packed.{Packed}
 use Rattle.message.specs.declared.Unpacked.{Unpacked}
 use Rattle.message.proofs.AnswerLaws.{packed-answered, unpacked-answered, refused-number}
 use Rattle.message.proofs.RoundTripLaws.{Promised}
-use Rattle.wsprcard.specs.Results.{wordResult, messageResult, WordReadsBack, MessagePacksBack, WordRefusedExactly}
+use Rattle.wsprcard.specs.Results.{wordResult, messageResult, PackedReadsBack, MessagePacksBack, UnpackRefusedExactly}
 use Rattle.wsprcard.specs.declared.WsprWord.{WsprWord}
 use Rattle.wsprcard.specs.declared.WsprMessage.{WsprMessage}
 
 pub pack-results : (callsign locator : List ℕ) (power : ℕ) (answer : Packed) (r : WsprWord) → r ≡ wordResult (packedNumbers answer)
     → (answer ≡ packed callsign locator power) × ReadsBack answer callsign locator power
-    → (r ≡ wordResult (packedNumbers (packed callsign locator power))) × WordReadsBack r callsign locator power
+    → (r ≡ wordResult (packedNumbers (packed callsign locator power))) × PackedReadsBack r callsign locator power
 unfolding wordResult
 pack-results callsign locator power answer r result (e, back) =
     let answered : packedNumbers answer .number ≡ 0 → answer ≡ Packed.Word (packedNumbers answer .word) =
     rw e (packed-answered callsign locator power) in
-    let reads : WordReadsBack (wordResult (packedNumbers answer)) callsign locator power =
+    let reads : PackedReadsBack (wordResult (packedNumbers answer)) callsign locator power =
     λ z. subst (λ (a : Packed). ReadsBack a callsign locator power) (answered z) back in
     rw result (ap (λ (a : Packed). wordResult (packedNumbers a)) e, reads)
 
@@ -29,7 +29,7 @@ pub unpack-results : (callsign locator : List ℕ) (word : ℕ) (answer : Unpack
     → (r ≡ messageResult (unpackedNumbers (unpacked callsign locator word)))
     × ((its-callsign ≡ callsignAfter callsign locator word)
     × ((its-locator ≡ locatorAfter callsign locator word)
-    × (MessagePacksBack r word its-callsign its-locator × WordRefusedExactly r word callsign locator)))
+    × (MessagePacksBack r word its-callsign its-locator × UnpackRefusedExactly r word callsign locator)))
 unfolding messageResult
 unpack-results callsign locator word answer its-callsign its-locator r result (e, (call, (loc, (back, exactly)))) =
     let answered : unpackedNumbers answer .number ≡ 0 → answer ≡ Unpacked.Power (unpackedNumbers answer .power) =
@@ -37,6 +37,6 @@ unpack-results callsign locator word answer its-callsign its-locator r result (e
     let nonzero : IsRefused answer ↔ (unpackedNumbers answer .number ≡ 0 → ⊥) = rw e (refused-number callsign locator word) in
     let packs : MessagePacksBack (messageResult (unpackedNumbers answer)) word its-callsign its-locator =
     λ z. subst (λ (a : Unpacked). PacksBack a word its-callsign its-locator) (answered z) back in
-    let refuses : WordRefusedExactly (messageResult (unpackedNumbers answer)) word callsign locator =
+    let refuses : UnpackRefusedExactly (messageResult (unpackedNumbers answer)) word callsign locator =
     λ six four. (λ n. exactly six four .0 (nonzero .1 n), λ never. nonzero .0 (exactly six four .1 never)) in
     rw result (ap (λ (a : Unpacked). messageResult (unpackedNumbers a)) e, (call, (loc, (packs, refuses))))

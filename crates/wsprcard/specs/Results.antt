@@ -1,5 +1,5 @@
 -- The structs of the C interface for the answers of the layers, and what the calls promise of each other in their terms.
-use Prim.Native.Nat.{ℕ, _^_, _<_}
+use Prim.Native.Nat.{ℕ}
 use mathlib.Core.Path.{_≡_}
 use mathlib.Core.Logic.{_↔_}
 use mathlib.Core.List.{List}
@@ -8,9 +8,8 @@ use Rattle.refusal.specs.Refusals.{noWord}
 use Rattle.message.specs.Answer.{packed, WordNumbers, PowerNumbers}
 use Rattle.message.specs.RoundTrip.{ReadsAs, NeverMade}
 use Rattle.message.specs.declared.Packed.{Packed}
-use Rattle.frame.specs.Symbols.{frameOf}
 use Rattle.frame.specs.Answer.{writtenRefusal}
-use Rattle.frame.specs.RoundTrip.{ReadsAsWord, NeverFromWord, RightForm, ReadsAsMessage, WritesAs, NeverFromMessage}
+use Rattle.frame.specs.RoundTrip.{ReadsAsWord, WordWritesAs, NeverFromWord, RightForm, NoWord, ReadsAsMessage, MessageWritesAs, NeverFromMessage}
 use Rattle.frame.specs.declared.Written.{Written}
 use Rattle.wsprcard.specs.declared.WsprWritten.{WsprWritten}
 use Rattle.wsprcard.specs.declared.WsprWord.{WsprWord}
@@ -30,16 +29,16 @@ messageResult numbers = record { refusal = numbers .number; place = numbers .pla
 -- ---- What the calls promise of each other: a refusal number of 0 is success
 
 -- What was packed reads back.
-abbrev pub WordReadsBack : WsprWord → List ℕ → List ℕ → ℕ → Type 0
-WordReadsBack r callsign locator power = r .refusal ≡ 0 → ReadsAs (r .word) callsign locator power
+abbrev pub PackedReadsBack : WsprWord → List ℕ → List ℕ → ℕ → Type 0
+PackedReadsBack r callsign locator power = r .refusal ≡ 0 → ReadsAs (r .word) callsign locator power
 
 -- What was read packs back.
 abbrev pub MessagePacksBack : WsprMessage → ℕ → List ℕ → List ℕ → Type 0
 MessagePacksBack r word callsign locator = r .refusal ≡ 0 → packed callsign locator (r .power) ≡ Packed.Word word
 
 -- With a callsign of six bytes and a locator of four lent, the word is refused exactly where no message has it.
-abbrev pub WordRefusedExactly : WsprMessage → ℕ → List ℕ → List ℕ → Type 0
-WordRefusedExactly r word callsign locator = length callsign ≡ 6 → length locator ≡ 4 → (r .refusal ≡ 0 → ⊥) ↔ NeverMade word
+abbrev pub UnpackRefusedExactly : WsprMessage → ℕ → List ℕ → List ℕ → Type 0
+UnpackRefusedExactly r word callsign locator = length callsign ≡ 6 → length locator ≡ 4 → (r .refusal ≡ 0 → ⊥) ↔ NeverMade word
 
 -- A frame that was written from a word reads back, and is no other word's.
 abbrev pub FrameReadsAsWord : WsprWritten → ℕ → List ℕ → Type 0
@@ -49,21 +48,21 @@ FrameReadsAsWord r word frame = r .refusal ≡ 0 → ReadsAsWord frame word
 abbrev pub FrameReadsAsMessage : WsprWritten → List ℕ → List ℕ → ℕ → List ℕ → Type 0
 FrameReadsAsMessage r callsign locator power frame = r .refusal ≡ 0 → ReadsAsMessage frame callsign locator power
 
--- The word that was read has the frame.
+-- The word that was read writes the frame.
 abbrev pub WordWritesFrame : WsprWord → List ℕ → Type 0
-WordWritesFrame r frame = r .refusal ≡ 0 → (r .word < 2 ^ 50) × (frameOf (r .word) ≡ frame)
+WordWritesFrame r frame = r .refusal ≡ 0 → WordWritesAs (r .word) frame
 
 -- The frame is refused exactly where writing from a word never makes it.
 abbrev pub FrameRefusedExactly : WsprWord → List ℕ → Type 0
 FrameRefusedExactly r frame = (r .refusal ≡ 0 → ⊥) ↔ NeverFromWord frame
 
--- Of frames of 162 symbols of 0 to 3 with the right sync bits, refusal 9 is given exactly where no 50-bit word has the frame.
+-- Refusal 9 is given exactly where the form is right and no 50-bit word has the frame.
 abbrev pub NoWordExactly : WsprWord → List ℕ → Type 0
-NoWordExactly r frame = RightForm frame → (r .refusal ≡ noWord) ↔ ((word : ℕ) → word < 2 ^ 50 → frameOf word ≡ frame → ⊥)
+NoWordExactly r frame = (r .refusal ≡ noWord) ↔ (RightForm frame × NoWord frame)
 
--- The message that was read has the frame.
+-- The message that was read writes the frame.
 abbrev pub MessageWritesFrame : WsprMessage → List ℕ → List ℕ → List ℕ → Type 0
-MessageWritesFrame r frame callsign locator = r .refusal ≡ 0 → WritesAs callsign locator (r .power) frame
+MessageWritesFrame r frame callsign locator = r .refusal ≡ 0 → MessageWritesAs callsign locator (r .power) frame
 
 -- With a callsign of six bytes and a locator of four lent, the frame is refused exactly where writing from a message never makes it.
 abbrev pub MessageFrameRefusedExactly : WsprMessage → List ℕ → List ℕ → List ℕ → Type 0

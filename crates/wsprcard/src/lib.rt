@@ -3,7 +3,7 @@
 ghost use mathlib.Core.Path.{_≡_};
 ghost use Rattle.message.specs.Answer.{packed, unpacked, callsignAfter, locatorAfter, packedNumbers, unpackedNumbers, wordGiven, wordRefused};
 ghost use Rattle.frame.specs.Answer.{wordWritten, messageWritten, frameAfterWord, frameAfterMessage, wordRead, messageRead, callsignRead, locatorRead, readNumbers};
-ghost use Rattle.wsprcard.specs.Results.{writtenResult, wordResult, messageResult, WordReadsBack, MessagePacksBack, WordRefusedExactly, FrameReadsAsWord, FrameReadsAsMessage, WordWritesFrame, FrameRefusedExactly, NoWordExactly, MessageWritesFrame, MessageFrameRefusedExactly};
+ghost use Rattle.wsprcard.specs.Results.{writtenResult, wordResult, messageResult, PackedReadsBack, MessagePacksBack, UnpackRefusedExactly, FrameReadsAsWord, FrameReadsAsMessage, WordWritesFrame, FrameRefusedExactly, NoWordExactly, MessageWritesFrame, MessageFrameRefusedExactly};
 use frame::Read;
 use frame::Written;
 use message::Packed;
@@ -93,7 +93,7 @@ fn message_result(answer: Unpacked) -> WsprMessage
 #[no_mangle]
 pub extern "C" fn wspr_pack(callsign: &[u8], locator: &[u8], power: u32) -> WsprWord
     ensures answer { λ r. ⌜ r ≡ wordResult (packedNumbers (packed (now (callsign .entry)) (now (locator .entry)) power)) ⌝ }
-    ensures reads_back { λ r. ⌜ WordReadsBack r (now (callsign .entry)) (now (locator .entry)) power ⌝ }
+    ensures reads_back { λ r. ⌜ PackedReadsBack r (now (callsign .entry)) (now (locator .entry)) power ⌝ }
 {
     match message::pack(callsign, locator, power) {
         Packed::Word(word) => given_word(word),
@@ -108,7 +108,7 @@ pub extern "C" fn wspr_unpack(word: u64, callsign: &mut [u8], locator: &mut [u8]
     ensures callsign_after { λ _. ⌜ now (callsign .exit) ≡ callsignAfter (now (callsign .entry)) (now (locator .entry)) word ⌝ }
     ensures locator_after { λ _. ⌜ now (locator .exit) ≡ locatorAfter (now (callsign .entry)) (now (locator .entry)) word ⌝ }
     ensures packs_back { λ r. ⌜ MessagePacksBack r word (now (callsign .exit)) (now (locator .exit)) ⌝ }
-    ensures refuses_exactly { λ r. ⌜ WordRefusedExactly r word (now (callsign .entry)) (now (locator .entry)) ⌝ }
+    ensures refuses_exactly { λ r. ⌜ UnpackRefusedExactly r word (now (callsign .entry)) (now (locator .entry)) ⌝ }
 {
     message_result(message::unpack(word, callsign, locator))
 }

@@ -3,7 +3,7 @@
 -- Assumes nothing.
 use Prim.Native.Nat.{_+_, _-_, _*_, _^_, _<_}
 use native.Mathlib.Omega.{arith}
-use Rattle.convolution.proofs.DecodingLaws.{nextBit-below}
+use Rattle.convolution.proofs.DecodingLaws.{nextBit-below, only-word}
 use Rattle.convolution.proofs.Turns.{Decoding, decoding-fits, decoding-starts, decoding-turn, decoding-ends}
 use Rattle.convolution.proofs.decode.Statement.{statement}
 use Rattle.convolution.proofs.decode.Tie as tie
@@ -64,7 +64,8 @@ loop-again c =
 returns : tie.Need-returns Inv-loop μ-loop
 returns c =
     let l = c .before in
-    decoding-ends (l .before .args .t1) (l .loop .word) (l .loop .register) (l .loop .step) (omega arith) (l .loop .inv)
+    let e = decoding-ends (l .before .args .t1) (l .loop .word) (l .loop .register) (l .loop .step) (omega arith) (l .loop .inv) in
+    (e, rw e (only-word (l .before .args .t1)))
 
 pub decode-spec : {M : Type 1} → statement M
 decode-spec =

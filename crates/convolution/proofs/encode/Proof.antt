@@ -4,7 +4,6 @@
 use mathlib.Core.Path.{ap, _∙_}
 use Prim.Native.Nat.{_-_}
 use native.Mathlib.Omega.{arith}
-use borrow.Author.Needs.{needs}
 use Rattle.convolution.specs.Code.{clocked}
 use Rattle.convolution.proofs.CodeLaws.{clocked-below}
 use Rattle.convolution.proofs.Turns.{Encoding, encoding-starts, encoding-turn, encoding-ends}
@@ -17,11 +16,8 @@ Inv-loop word coded₀ register₀ step₀ coded register step = Encoding word c
 abbrev μ-loop : tie.MeasureT-loop
 μ-loop word coded₀ register₀ step₀ coded register step = 81 - step
 
-zeros-requires : tie.Need-zeros-requires Inv-loop μ-loop
-zeros-requires c κs = search needs
-
 loop-holds : tie.Need-loop-holds Inv-loop μ-loop
-loop-holds c = rw (c .zeros .ensures) (encoding-starts (c .before .args .word))
+loop-holds c = encoding-starts (c .args .word)
 
 clocked-bit-requires : tie.Need-clocked-bit-requires Inv-loop μ-loop
 clocked-bit-requires c κs = omega arith
@@ -59,7 +55,7 @@ loop-less c = omega arith
 loop-again : tie.Need-loop-again Inv-loop μ-loop
 loop-again c =
     let l = c .before .before .before .before .before in
-    let a = l .before .before .args in
+    let a = l .before .args in
     encoding-turn (a .word) (l .loop .coded) (l .loop .register) (l .loop .step) (omega arith) (l .loop .inv)
     (c .before .before .clock .result) (c .before .before .clock .ensures ∙ ap (clocked (l .loop .register)) (c .before .before .before .clocked-bit .ensures))
     (c .before .first-coded .result) (c .second-coded .result) (c .before .first-coded .ensures) (c .second-coded .ensures)
@@ -67,7 +63,7 @@ loop-again c =
 returns : tie.Need-returns Inv-loop μ-loop
 returns c =
     let l = c .before in
-    encoding-ends (l .before .before .args .word) (l .loop .coded) (l .loop .register) (l .loop .step) (omega arith) (l .loop .inv)
+    encoding-ends (l .before .args .word) (l .loop .coded) (l .loop .register) (l .loop .step) (omega arith) (l .loop .inv)
 
 pub encode-spec : {M : Type 1} → statement M
 encode-spec =
@@ -75,7 +71,6 @@ encode-spec =
     (tie.spec
     Inv-loop
     μ-loop
-    zeros-requires
     loop-holds
     clocked-bit-requires
     clock-requires

@@ -2,7 +2,6 @@
 -- Assumes nothing.
 use borrow.Author.Needs.{needs}
 use Rattle.convolution.specs.Code.{firstMask}
-use borrow.Author.Needs.{needs}
 use Rattle.convolution.proofs.first_coded.Statement.{statement}
 use Rattle.convolution.proofs.first_coded.Tie as tie
 

@@ -2,7 +2,6 @@
 -- Assumes nothing.
 use borrow.Author.Needs.{needs}
 use Rattle.convolution.specs.Code.{secondMask}
-use borrow.Author.Needs.{needs}
 use Rattle.convolution.proofs.second_coded.Statement.{statement}
 use Rattle.convolution.proofs.second_coded.Tie as tie
 

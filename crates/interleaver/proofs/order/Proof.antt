@@ -20,17 +20,14 @@ abbrev μ-loop : tie.MeasureT-loop
 μ-loop places order₀ i₀ order i = 162 - i
 
 -- What the table of places holds is the place.
-place-read : (c : tie.In-loop Inv-loop μ-loop) → getD (c .before .before .before .places .result) (c .before .loop .i) 0 ≡ placeOf (c .before .loop .i)
-place-read c = ap (λ (l : List ℕ). getD l (c .before .loop .i) 0) (c .before .before .before .places .ensures) ∙ getD-places (c .before .loop .i)
+place-read : (c : tie.In-loop Inv-loop μ-loop) → getD (c .before .before .places .result) (c .before .loop .i) 0 ≡ placeOf (c .before .loop .i)
+place-read c = ap (λ (l : List ℕ). getD l (c .before .loop .i) 0) (c .before .before .places .ensures) ∙ getD-places (c .before .loop .i)
 
 places-requires : tie.Need-places-requires Inv-loop μ-loop
 places-requires c κs = search needs
 
-zeros-requires : tie.Need-zeros-requires Inv-loop μ-loop
-zeros-requires c κs = search needs
-
 loop-holds : tie.Need-loop-holds Inv-loop μ-loop
-loop-holds c = rw (c .zeros .ensures) (ordering-starts _ refl)
+loop-holds c = ordering-starts _ refl
 
 cast-order : tie.Need-cast-order Inv-loop μ-loop
 cast-order c = omega arith
@@ -64,7 +61,6 @@ order-spec =
     Inv-loop
     μ-loop
     places-requires
-    zeros-requires
     loop-holds
     cast-order
     array-read-order

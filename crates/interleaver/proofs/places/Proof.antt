@@ -4,7 +4,6 @@
 use mathlib.Core.Logic.{⊎-elim}
 use Prim.Native.Nat.{_-_}
 use native.Mathlib.Omega.{arith}
-use borrow.Author.Needs.{needs}
 use borrow.Author.Tests.{lt-ltb, le-ltb}
 use Rattle.interleaver.proofs.Turns.{Placing, placing-starts, placing-counter, placing-room, placing-placed, placing-passed, placing-ends}
 use Rattle.interleaver.proofs.places.Statement.{statement}
@@ -16,11 +15,8 @@ Inv-loop places₀ counter₀ address₀ places counter address = Placing places
 abbrev μ-loop : tie.MeasureT-loop
 μ-loop places₀ counter₀ address₀ places counter address = 256 - address
 
-zeros-requires : tie.Need-zeros-requires Inv-loop μ-loop
-zeros-requires c κs = search needs
-
 loop-holds : tie.Need-loop-holds Inv-loop μ-loop
-loop-holds c = rw (c .zeros .ensures) placing-starts
+loop-holds c = placing-starts
 
 cast-reversed : tie.Need-cast-reversed Inv-loop μ-loop
 cast-reversed c = omega arith
@@ -67,7 +63,6 @@ places-spec =
     (tie.spec
     Inv-loop
     μ-loop
-    zeros-requires
     loop-holds
     cast-reversed
     reversed-requires

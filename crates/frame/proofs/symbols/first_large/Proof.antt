@@ -7,8 +7,8 @@ use native.Mathlib.Omega.{arith}
 use lib.ListN.{length, getD}
 use borrow.Author.Tests.{le-leb, lt-leb}
 use Rattle.basics.proofs.ListLaws.{search-failed, search-passed, search-over}
-use Rattle.frame.specs.Answer.{firstLarge}
-use Rattle.frame.proofs.SymbolLaws.{Searching, small}
+use Rattle.frame.specs.Answer.{small, firstLarge}
+use Rattle.frame.proofs.SymbolLaws.{Searching}
 use Rattle.frame.proofs.symbols.first_large.Statement.{statement}
 use Rattle.frame.proofs.symbols.first_large.Tie as tie
 

@@ -10,8 +10,8 @@ use borrow.Author.Needs.{needs}
 use borrow.Author.Tests.{eq-eqb, ne-eqb}
 use Rattle.basics.proofs.ListLaws.{search-failed, search-passed, search-over}
 use Rattle.frame.specs.Symbols.{syncAt}
-use Rattle.frame.specs.Answer.{firstWrongSync}
-use Rattle.frame.proofs.SymbolLaws.{getD-sync, Searching, synced}
+use Rattle.frame.specs.Answer.{synced, firstWrongSync}
+use Rattle.frame.proofs.SymbolLaws.{getD-sync, Searching}
 use Rattle.frame.proofs.symbols.first_wrong_sync.Statement.{statement}
 use Rattle.frame.proofs.symbols.first_wrong_sync.Tie as tie
 

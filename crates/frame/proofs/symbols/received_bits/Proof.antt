@@ -22,18 +22,14 @@ abbrev μ-loop : tie.MeasureT-loop
 μ-loop frame places received₀ i₀ received i = 162 - i
 
 -- What is read of the places is the coded bit's place.
-place-read : (c : tie.In-loop Inv-loop μ-loop) → getD (c .before .before .before .places .result) (c .before .loop .i) 0 ≡ placeOf (c .before .loop .i)
-place-read c = ap (λ (l : List ℕ). getD l (c .before .loop .i) 0) (c .before .before .before .places .ensures) ∙ getD-places (c .before .loop .i)
+place-read : (c : tie.In-loop Inv-loop μ-loop) → getD (c .before .before .places .result) (c .before .loop .i) 0 ≡ placeOf (c .before .loop .i)
+place-read c = ap (λ (l : List ℕ). getD l (c .before .loop .i) 0) (c .before .before .places .ensures) ∙ getD-places (c .before .loop .i)
 
 places-requires : tie.Need-places-requires Inv-loop μ-loop
 places-requires c κs = search needs
 
-zeros-requires : tie.Need-zeros-requires Inv-loop μ-loop
-zeros-requires c κs = search needs
-
 loop-holds : tie.Need-loop-holds Inv-loop μ-loop
-loop-holds c =
-    rw (c .zeros .ensures) (fill-starts _ _ (sym (length-receivedBits (c .before .before .before .args .frame .now))))
+loop-holds c = fill-starts _ _ (sym (length-receivedBits (c .before .before .args .frame .now)))
 
 array-read-received : tie.Need-array-read-received Inv-loop μ-loop
 array-read-received c = omega arith
@@ -56,14 +52,14 @@ loop-less c = omega arith
 loop-again : tie.Need-loop-again Inv-loop μ-loop
 loop-again c =
     let l = c .before .before in
-    let frame = l .before .before .before .before .args .frame .now in
+    let frame = l .before .before .before .args .frame .now in
     fill-turn (receivedBits frame) (l .loop .received) (l .loop .i) _ (omega (arith, length-receivedBits frame))
     (rw (place-read (c .before)) (sym (getD-receivedBits frame (l .loop .i) (omega arith)))) (l .loop .inv)
 
 returns : tie.Need-returns Inv-loop μ-loop
 returns c =
     let l = c .before in
-    let frame = l .before .before .before .before .args .frame .now in
+    let frame = l .before .before .before .args .frame .now in
     fill-ends (receivedBits frame) (l .loop .received) (l .loop .i) (omega (arith, length-receivedBits frame)) (l .loop .inv)
 
 pub received-bits-spec : {M : Type 1} → statement M
@@ -73,7 +69,6 @@ received-bits-spec =
     Inv-loop
     μ-loop
     places-requires
-    zeros-requires
     loop-holds
     array-read-received
     cast-received

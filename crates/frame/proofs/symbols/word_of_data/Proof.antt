@@ -38,7 +38,7 @@ form c =
     form-of-tests (c .before .before .args .frame .now) (pre .0) (pre .1 .0) (pre .1 .1)
 
 its-word : (c : tie.After-decode) → c .decode .result ≡ decodedWord (receivedBits (c .before .before .before .args .frame .now))
-its-word c = c .decode .ensures ∙ ap decodedWord (c .before .received-bits .ensures)
+its-word c = c .decode .ensures .0 ∙ ap decodedWord (c .before .received-bits .ensures)
 
 returns : tie.Need-returns
 returns c =

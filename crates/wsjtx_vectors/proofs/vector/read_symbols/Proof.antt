@@ -18,13 +18,10 @@ Inv-loop text symbols₀ i₀ symbols i = Filling (symbolsIn text) symbols i
 abbrev μ-loop : tie.MeasureT-loop
 μ-loop text symbols₀ i₀ symbols i = 162 - i
 
-zeros-requires : tie.Need-zeros-requires Inv-loop μ-loop
-zeros-requires c κs = search needs
-
 loop-holds : tie.Need-loop-holds Inv-loop μ-loop
 loop-holds c =
-    let text = c .before .before .args .text .now in
-    rw (c .zeros .ensures) (fill-starts _ _ (omega (arith, length-symbols text)))
+    let text = c .before .args .text .now in
+    fill-starts _ _ (omega (arith, length-symbols text))
 
 shared-slice-read-digit-value : tie.Need-shared-slice-read-digit-value Inv-loop μ-loop
 shared-slice-read-digit-value c = omega arith
@@ -49,14 +46,14 @@ loop-less c = omega arith
 loop-again : tie.Need-loop-again Inv-loop μ-loop
 loop-again c =
     let l = c .before .before .before in
-    let text = l .before .before .before .args .text .now in
+    let text = l .before .before .args .text .now in
     fill-turn (symbolsIn text) (l .loop .symbols) (l .loop .i) (c .digit-value .result) (omega (arith, length-symbols text))
     (c .digit-value .ensures ∙ sym (symbol-at text (l .loop .i) (omega arith))) (l .loop .inv)
 
 returns : tie.Need-returns Inv-loop μ-loop
 returns c =
     let l = c .before in
-    let text = l .before .before .before .args .text .now in
+    let text = l .before .before .args .text .now in
     fill-ends (symbolsIn text) (l .loop .symbols) (l .loop .i) (omega (arith, length-symbols text)) (l .loop .inv)
 
 pub read-symbols-spec : {M : Type 1} → statement M
@@ -65,7 +62,6 @@ read-symbols-spec =
     (tie.spec
     Inv-loop
     μ-loop
-    zeros-requires
     loop-holds
     shared-slice-read-digit-value
     digit-value-requires
