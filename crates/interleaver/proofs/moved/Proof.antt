@@ -1,4 +1,4 @@
--- `interleaver::moved` meets its contract.
+-- `interleaver::moved` meets its contract: one more below 162, else the same.
 -- Assumes nothing.
 use borrow.Author.Tests.{lt-ltb, le-ltb}
 use borrow.Author.Needs.{needs}
