@@ -20,3 +20,8 @@ sameList [] [] = true
 sameList [] (y ∷ ys) = false
 sameList (x ∷ xs) [] = false
 sameList (x ∷ xs) (y ∷ ys) = eqb x y && sameList xs ys
+
+-- The place of the first test that is false, the first having the given one; past the last where there is none.
+unfoldable pub firstFalse : ℕ → List Bool → ℕ
+firstFalse place [] = place
+firstFalse place (t ∷ ts) = cond t (firstFalse (suc place) ts) place

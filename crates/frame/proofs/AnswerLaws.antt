@@ -12,10 +12,10 @@ use Rattle.basics.proofs.Choice.{cond-passed, cond-held, cond-both, by-test}
 use Rattle.basics.proofs.ListLaws.{sameList-equal, sameList-itself}
 use Rattle.refusal.specs.declared.Refusal.{Refusal}
 use Rattle.refusal.specs.Refusals.{refusal, wrongLength, wordTooLarge, symbolTooLarge, wrongSync, noWord}
-use Rattle.message.specs.Answer.{packed, packedNumbers, unpackedNumbers}
+use Rattle.message.specs.Answer.{packed, packedNumbers, givenNumbers}
 use Rattle.message.specs.Word.{wordOf}
 use Rattle.message.specs.declared.Packed.{Packed}
-use Rattle.message.specs.declared.Unpacked.{Unpacked}
+use Rattle.message.specs.declared.Given.{Given}
 use Rattle.message.proofs.AnswerLaws.{legal-of-packed, refused-no-word, packed-answered, unpacked-answered}
 use Rattle.convolution.specs.Code.{codedBits}
 use Rattle.convolution.specs.Decoding.{decodedWord}
@@ -211,13 +211,13 @@ read-none frame =
     (cond-both P (ltb (firstWrongSync frame) 162) (λ z. absurd (omega arith))
     (cond-both P (sameList (frameOf (decodedWord (receivedBits frame))) frame) (λ z. absurd (omega arith)) (λ z. refl))))
 
-pub message-read-answered : (frame callsign locator : List ℕ) → unpackedNumbers (messageRead frame callsign locator) .number ≡ 0
-    → messageRead frame callsign locator ≡ Unpacked.Power (unpackedNumbers (messageRead frame callsign locator) .power)
-unfolding messageRead messageFrom readNumbers unpackedNumbers
+pub message-read-answered : (frame callsign locator : List ℕ) → givenNumbers (messageRead frame callsign locator) .number ≡ 0
+    → messageRead frame callsign locator ≡ Given.Power (givenNumbers (messageRead frame callsign locator) .power)
+unfolding messageRead messageFrom readNumbers givenNumbers
 message-read-answered frame callsign locator = go (wordRead frame) (read-answered frame)
   where
     go : (answer : Read) → (readNumbers answer .number ≡ 0 → answer ≡ Read.Word (readNumbers answer .word))
-        → unpackedNumbers (messageFrom answer callsign locator) .number ≡ 0
-        → messageFrom answer callsign locator ≡ Unpacked.Power (unpackedNumbers (messageFrom answer callsign locator) .power)
+        → givenNumbers (messageFrom answer callsign locator) .number ≡ 0
+        → messageFrom answer callsign locator ≡ Given.Power (givenNumbers (messageFrom answer callsign locator) .power)
     go (Read.Word w) numbered z = unpacked-answered callsign locator w z
     go (Read.Refused f) numbered z = absurd (refused-not-word f _ (numbered z))

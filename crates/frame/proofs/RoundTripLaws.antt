@@ -12,7 +12,7 @@ use Rattle.message.specs.Answer.{rightLengths, packed, unpacked, callsignAfter,
 use Rattle.message.specs.Word.{wordOf, callsignOf, locatorOf}
 use Rattle.message.specs.RoundTrip.{IsRefused}
 use Rattle.message.specs.declared.Packed.{Packed}
-use Rattle.message.specs.declared.Unpacked.{Unpacked}
+use Rattle.message.specs.declared.Given.{Given}
 use Rattle.message.proofs.AnswerLaws.{right-lengths, unpacked-read, refused-no-power}
 use Rattle.message.proofs.RoundTripLaws.{unpack-pack, pack-unpack}
 use Rattle.convolution.specs.Decoding.{decodedWord}
@@ -90,7 +90,7 @@ unfolding messageRead callsignRead locatorRead messageFrom callsignFrom locatorF
 reads-as callsign locator power word made c l six four =
     let back = unpack-pack callsign locator power word made in
     let read = read-frameOf word (back .in-50-bits) in
-    let answer : unpacked c l word ≡ Unpacked.Power power = unpacked-read c l word (right-lengths c l six four) ∙ back .its-power in
+    let answer : unpacked c l word ≡ Given.Power power = unpacked-read c l word (right-lengths c l six four) ∙ back .its-power in
     (rw read answer, (rw (read, answer) (back .its-callsign), rw (read, answer) (back .its-locator)))
 
 pub message-reads-back : (callsign locator : List ℕ) (power : ℕ) (frame : List ℕ)
@@ -112,12 +112,12 @@ writes-as callsign locator power word frame made same before right =
     (written .0, written .1 ∙ same)
 
 -- The answer with a power is that of a frame with a word that has that power.
-power-of-read : (frame c l : List ℕ) (power : ℕ) → messageRead frame c l ≡ Unpacked.Power power
+power-of-read : (frame c l : List ℕ) (power : ℕ) → messageRead frame c l ≡ Given.Power power
     → MessageWritesAs (callsignRead frame c l) (locatorRead frame c l) power frame
 unfolding messageRead callsignRead locatorRead messageFrom callsignFrom locatorFrom callsignAfter locatorAfter contentAfter unpacked
 power-of-read frame c l power = go (wordRead frame) refl
   where
-    go : (answer : Read) → wordRead frame ≡ answer → messageFrom answer c l ≡ Unpacked.Power power
+    go : (answer : Read) → wordRead frame ≡ answer → messageFrom answer c l ≡ Given.Power power
         → MessageWritesAs (callsignFrom answer c l) (locatorFrom answer c l) power frame
     go (Read.Refused f) e read = absurd (refused-no-power f power read)
     go (Read.Word w) e read =
@@ -128,9 +128,9 @@ pub message-writes-back : (frame c l : List ℕ)
     → MessageWritesBack (messageRead frame c l) frame (callsignRead frame c l) (locatorRead frame c l)
 message-writes-back frame c l = go (messageRead frame c l) refl
   where
-    go : (answer : Unpacked) → messageRead frame c l ≡ answer → MessageWritesBack answer frame (callsignRead frame c l) (locatorRead frame c l)
-    go (Unpacked.Power p) e = power-of-read frame c l p e
-    go (Unpacked.Refused f) e = tt
+    go : (answer : Given) → messageRead frame c l ≡ answer → MessageWritesBack answer frame (callsignRead frame c l) (locatorRead frame c l)
+    go (Given.Power p) e = power-of-read frame c l p e
+    go (Given.Refused f) e = tt
 
 pub message-refused-exactly : (frame c l : List ℕ) → MessageRefusedExactly (messageRead frame c l) frame c l
 message-refused-exactly frame c l six four = (never, λ none. exact (messageRead frame c l) refl none)
@@ -142,11 +142,11 @@ message-refused-exactly frame c l six four = (never, λ none. exact (messageRead
         let read = reads-as callsign locator power (wordOf callsign locator power) made c l six four .0 in
         rw (← same, read) at refused
 
-    exact : (answer : Unpacked) → messageRead frame c l ≡ answer → NeverFromMessage frame → IsRefused answer
-    exact (Unpacked.Power p) e none =
+    exact : (answer : Given) → messageRead frame c l ≡ answer → NeverFromMessage frame → IsRefused answer
+    exact (Given.Power p) e none =
         let made = power-of-read frame c l p e (frameOf 0) (length-frameOf 0) in
         none (callsignRead frame c l) (locatorRead frame c l) p (frameOf 0) (made .0) (made .1)
-    exact (Unpacked.Refused f) e none = tt
+    exact (Given.Refused f) e none = tt
 
 -- ---- What each function promises, from its answer and what the lent buffers then hold
 
@@ -188,14 +188,14 @@ module _ (frame : List ℕ) where
       subst ReadWordPromised e (refl, (word-writes-back frame, (word-refused-exactly frame, no-word-refused frame)))
 
 module _ (frame callsign locator : List ℕ) where
-  abbrev pub ReadMessagePromised : Unpacked → List ℕ → List ℕ → Type 0
+  abbrev pub ReadMessagePromised : Given → List ℕ → List ℕ → Type 0
   ReadMessagePromised answer its-callsign its-locator =
       (answer ≡ messageRead frame callsign locator)
       × ((its-callsign ≡ callsignRead frame callsign locator)
       × ((its-locator ≡ locatorRead frame callsign locator)
       × (MessageWritesBack answer frame its-callsign its-locator × MessageRefusedExactly answer frame callsign locator)))
 
-  pub read-message-promised : (answer : Unpacked) (its-callsign its-locator : List ℕ) → answer ≡ messageRead frame callsign locator
+  pub read-message-promised : (answer : Given) (its-callsign its-locator : List ℕ) → answer ≡ messageRead frame callsign locator
       → its-callsign ≡ callsignRead frame callsign locator → its-locator ≡ locatorRead frame callsign locator
       → ReadMessagePromised answer its-callsign its-locator
   read-message-promised answer its-callsign its-locator e e₂ e₃ =
@@ -204,12 +204,12 @@ module _ (frame callsign locator : List ℕ) where
       (e, (e₂, (e₃, (back, exactly))))
 
   -- The first refusal is the one returned.
-  pub read-message-refused : (f : Refusal) → wordRead frame ≡ Read.Refused f → ReadMessagePromised (Unpacked.Refused f) callsign locator
+  pub read-message-refused : (f : Refusal) → wordRead frame ≡ Read.Refused f → ReadMessagePromised (Given.Refused f) callsign locator
   unfolding messageRead callsignRead locatorRead messageFrom callsignFrom locatorFrom
-  read-message-refused f e = read-message-promised (Unpacked.Refused f) callsign locator (rw e) (rw e) (rw e)
+  read-message-refused f e = read-message-promised (Given.Refused f) callsign locator (rw e) (rw e) (rw e)
 
   -- A frame with a word is read as the word is.
-  pub read-message-word : (word : ℕ) (answer : Unpacked) (its-callsign its-locator : List ℕ) → wordRead frame ≡ Read.Word word
+  pub read-message-word : (word : ℕ) (answer : Given) (its-callsign its-locator : List ℕ) → wordRead frame ≡ Read.Word word
       → answer ≡ unpacked callsign locator word → its-callsign ≡ callsignAfter callsign locator word
       → its-locator ≡ locatorAfter callsign locator word → ReadMessagePromised answer its-callsign its-locator
   unfolding messageRead callsignRead locatorRead messageFrom callsignFrom locatorFrom

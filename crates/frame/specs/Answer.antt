@@ -10,7 +10,7 @@ use Rattle.refusal.specs.declared.Refusal.{Refusal}
 use Rattle.message.specs.Answer.{packed, unpacked, callsignAfter, locatorAfter, WordNumbers, wordGiven, wordRefused}
 use Rattle.message.specs.Word.{wordOf}
 use Rattle.message.specs.declared.Packed.{Packed}
-use Rattle.message.specs.declared.Unpacked.{Unpacked}
+use Rattle.message.specs.declared.Given.{Given}
 use Rattle.convolution.specs.Decoding.{decodedWord}
 use Rattle.frame.specs.Symbols.{syncAt, frameOf, receivedBits}
 use Rattle.frame.specs.declared.Written.{Written}
@@ -79,9 +79,9 @@ wordRead frame =
 -- ---- Strict reading to the message: "it goes on only if the frame gave a word, and the first refusal is the one returned"
 
 -- The answer, and what the lent callsign and locator then hold, given the answer to the word.
-unfoldable pub messageFrom : Read → List ℕ → List ℕ → Unpacked
+unfoldable pub messageFrom : Read → List ℕ → List ℕ → Given
 messageFrom (Read.Word w) callsign locator = unpacked callsign locator w
-messageFrom (Read.Refused f) callsign locator = Unpacked.Refused f
+messageFrom (Read.Refused f) callsign locator = Given.Refused f
 
 unfoldable pub callsignFrom : Read → List ℕ → List ℕ → List ℕ
 callsignFrom (Read.Word w) callsign locator = callsignAfter callsign locator w
@@ -91,7 +91,7 @@ unfoldable pub locatorFrom : Read → List ℕ → List ℕ → List ℕ
 locatorFrom (Read.Word w) callsign locator = locatorAfter callsign locator w
 locatorFrom (Read.Refused f) callsign locator = locator
 
-unfoldable pub messageRead : List ℕ → List ℕ → List ℕ → Unpacked
+unfoldable pub messageRead : List ℕ → List ℕ → List ℕ → Given
 messageRead frame callsign locator = messageFrom (wordRead frame) callsign locator
 
 unfoldable pub callsignRead : List ℕ → List ℕ → List ℕ → List ℕ

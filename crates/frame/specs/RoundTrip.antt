@@ -7,7 +7,7 @@ use mathlib.Core.List.{List}
 use lib.ListN.{length, getD}
 use Rattle.refusal.specs.Refusals.{refusal, noWord}
 use Rattle.message.specs.RoundTrip.{IsRefused}
-use Rattle.message.specs.declared.Unpacked.{Unpacked}
+use Rattle.message.specs.declared.Given.{Given}
 use Rattle.frame.specs.Symbols.{syncAt, frameOf}
 use Rattle.frame.specs.Answer.{wordWritten, messageWritten, frameAfterWord, frameAfterMessage, wordRead, messageRead, callsignRead, locatorRead}
 use Rattle.frame.specs.declared.Written.{Written}
@@ -68,7 +68,7 @@ NoWordRefused answer frame = (answer ≡ Read.Refused (refusal noWord 0)) ↔ (R
 abbrev pub ReadsAsMessage : List ℕ → List ℕ → List ℕ → ℕ → Type 0
 ReadsAsMessage frame callsign locator power =
     (c l : List ℕ) → length c ≡ 6 → length l ≡ 4
-    → (messageRead frame c l ≡ Unpacked.Power power) × ((callsignRead frame c l ≡ callsign) × (locatorRead frame c l ≡ locator))
+    → (messageRead frame c l ≡ Given.Power power) × ((callsignRead frame c l ≡ callsign) × (locatorRead frame c l ≡ locator))
 
 -- What was written reads back.
 abbrev pub MessageReadsBack : Written → List ℕ → List ℕ → ℕ → List ℕ → Type 0
@@ -82,9 +82,9 @@ MessageWritesAs callsign locator power frame =
     → (messageWritten callsign locator power before ≡ Written.Done) × (frameAfterMessage callsign locator power before ≡ frame)
 
 -- What was read writes back.
-abbrev pub MessageWritesBack : Unpacked → List ℕ → List ℕ → List ℕ → Type 0
-MessageWritesBack (Unpacked.Power p) frame callsign locator = MessageWritesAs callsign locator p frame
-MessageWritesBack (Unpacked.Refused f) frame callsign locator = Unit
+abbrev pub MessageWritesBack : Given → List ℕ → List ℕ → List ℕ → Type 0
+MessageWritesBack (Given.Power p) frame callsign locator = MessageWritesAs callsign locator p frame
+MessageWritesBack (Given.Refused f) frame callsign locator = Unit
 
 -- Writing from a message never makes this frame.
 abbrev pub NeverFromMessage : List ℕ → Type 0
@@ -94,6 +94,6 @@ NeverFromMessage frame =
 
 -- With a callsign of six bytes and a locator of four lent, the answer is a refusal exactly where writing from a message never makes the
 -- frame.
-abbrev pub MessageRefusedExactly : Unpacked → List ℕ → List ℕ → List ℕ → Type 0
+abbrev pub MessageRefusedExactly : Given → List ℕ → List ℕ → List ℕ → Type 0
 MessageRefusedExactly answer frame callsign locator =
     length callsign ≡ 6 → length locator ≡ 4 → IsRefused answer ↔ NeverFromMessage frame

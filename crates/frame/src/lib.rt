@@ -6,7 +6,7 @@ ghost use mathlib.Core.Path.{_≡_};
 ghost use Rattle.frame.specs.Answer.{wordWritten, messageWritten, frameAfterWord, frameAfterMessage, wordRead, refusalOf, messageRead, callsignRead, locatorRead};
 ghost use Rattle.frame.specs.RoundTrip.{WordReadsBack, WordWritesBack, WordRefusedExactly, NoWordRefused, MessageReadsBack, MessageWritesBack, MessageRefusedExactly};
 use message::Packed;
-use message::Unpacked;
+use message::Given;
 use refusal::Refusal;
 use refusal::SYMBOL_TOO_LARGE;
 use refusal::WORD_TOO_LARGE;
@@ -112,7 +112,7 @@ fn refusal_of(answer: Read) -> Refusal
 }
 
 // The message of a frame: its callsign and locator are written, its power is the answer.
-pub fn read_message(frame: &[u8], callsign: &mut [u8], locator: &mut [u8]) -> Unpacked
+pub fn read_message(frame: &[u8], callsign: &mut [u8], locator: &mut [u8]) -> Given
     ensures answer { λ r. ⌜ r ≡ messageRead (now (frame .entry)) (now (callsign .entry)) (now (locator .entry)) ⌝ }
     ensures callsign_after { λ _. ⌜ now (callsign .exit) ≡ callsignRead (now (frame .entry)) (now (callsign .entry)) (now (locator .entry)) ⌝ }
     ensures locator_after { λ _. ⌜ now (locator .exit) ≡ locatorRead (now (frame .entry)) (now (callsign .entry)) (now (locator .entry)) ⌝ }
@@ -121,7 +121,7 @@ pub fn read_message(frame: &[u8], callsign: &mut [u8], locator: &mut [u8]) -> Un
 {
     let answer = read_word(frame);
     let Read::Word(word) = answer else {
-        return Unpacked::Refused(refusal_of(answer));
+        return Given::Refused(refusal_of(answer));
     };
     message::unpack(word, callsign, locator)
 }

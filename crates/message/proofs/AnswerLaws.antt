@@ -14,10 +14,10 @@ use Rattle.refusal.specs.Refusals.{refusal, wrongLength, badCharacter, badPower
 use Rattle.message.specs.Character.{firstBad, legalAt}
 use Rattle.power.specs.Powers.{legalPower}
 use Rattle.message.specs.Word.{wordOf, callsignPart, locatorPart, powerPart}
-use Rattle.message.specs.Answer.{rightLengths, packed, wordAnswer, unpacked, packedNumbers, unpackedNumbers}
+use Rattle.message.specs.Answer.{rightLengths, packed, wordAnswer, unpacked, packedNumbers, givenNumbers}
 use Rattle.message.specs.RoundTrip.{IsRefused}
 use Rattle.message.specs.declared.Packed.{Packed}
-use Rattle.message.specs.declared.Unpacked.{Unpacked}
+use Rattle.message.specs.declared.Given.{Given}
 use Rattle.message.proofs.CharacterLaws.{AllLegal}
 use Rattle.basics.proofs.ListLaws.{all-pass, firstFailing-first, firstFailing-append, none-fails}
 
@@ -96,7 +96,7 @@ legal-of-packed callsign locator power word e =
 -- ---- The cases of reading a word
 
 module _ (word : ℕ) where
-  pub wordAnswer-callsign : 262_177_560 ≤ callsignPart word → wordAnswer word ≡ Unpacked.Refused (refusal wordTooLarge 0)
+  pub wordAnswer-callsign : 262_177_560 ≤ callsignPart word → wordAnswer word ≡ Given.Refused (refusal wordTooLarge 0)
   unfolding wordAnswer
   wordAnswer-callsign h = rw (le-leb 262_177_560 _ h, or-true (leb (2 ^ 50) word))
 
@@ -106,27 +106,27 @@ module _ (word : ℕ) where
     unfolding callsignPart
     in-50-bits = omega arith
 
-    pub wordAnswer-locator : 32_400 ≤ locatorPart word → wordAnswer word ≡ Unpacked.Refused (refusal badLocatorNumber 0)
+    pub wordAnswer-locator : 32_400 ≤ locatorPart word → wordAnswer word ≡ Given.Refused (refusal badLocatorNumber 0)
     unfolding wordAnswer
     wordAnswer-locator h = rw (lt-leb (2 ^ 50) word in-50-bits, lt-leb 262_177_560 _ callsign, le-leb 32_400 _ h)
 
     module _ (locator : locatorPart word < 32_400) where
       -- What is left is the power's test.
       wordAnswer-past-locator : wordAnswer word
-          ≡ cond (ltb (powerPart word) 64 || not (legalPower (powerPart word - 64))) (Unpacked.Refused (refusal badPowerBits 0))
-          (Unpacked.Power (powerPart word - 64))
+          ≡ cond (ltb (powerPart word) 64 || not (legalPower (powerPart word - 64))) (Given.Refused (refusal badPowerBits 0))
+          (Given.Power (powerPart word - 64))
       unfolding wordAnswer
       wordAnswer-past-locator = rw (lt-leb (2 ^ 50) word in-50-bits, lt-leb 262_177_560 _ callsign, lt-leb 32_400 _ locator)
 
-      pub wordAnswer-low : powerPart word < 64 → wordAnswer word ≡ Unpacked.Refused (refusal badPowerBits 0)
+      pub wordAnswer-low : powerPart word < 64 → wordAnswer word ≡ Given.Refused (refusal badPowerBits 0)
       wordAnswer-low h = wordAnswer-past-locator ∙ rw (lt-ltb _ 64 h)
 
       pub wordAnswer-illegal : 64 ≤ powerPart word → legalPower (powerPart word - 64) ≡ false
-          → wordAnswer word ≡ Unpacked.Refused (refusal badPowerBits 0)
+          → wordAnswer word ≡ Given.Refused (refusal badPowerBits 0)
       wordAnswer-illegal h e = wordAnswer-past-locator ∙ rw (le-ltb _ 64 h, e)
 
       pub wordAnswer-power : 64 ≤ powerPart word → legalPower (powerPart word - 64) ≡ true
-          → wordAnswer word ≡ Unpacked.Power (powerPart word - 64)
+          → wordAnswer word ≡ Given.Power (powerPart word - 64)
       wordAnswer-power h e = wordAnswer-past-locator ∙ rw (le-ltb _ 64 h, e)
 
 -- What a word is that is read.
@@ -137,10 +137,10 @@ pub record Readable (word power : ℕ) : Type 0 where
   pub is-power : power ≡ powerPart word - 64
   pub power-legal : legalPower power ≡ true
 
-pub refused-no-power : (f : Refusal) (power : ℕ) → Unpacked.Refused f ≡ Unpacked.Power power → ⊥
+pub refused-no-power : (f : Refusal) (power : ℕ) → Given.Refused f ≡ Given.Power power → ⊥
 refused-no-power f power e = let z : _≡_ {A = ℕ} 0 1 = cc in omega arith
 
-pub readable : (word power : ℕ) → wordAnswer word ≡ Unpacked.Power power → Readable word power
+pub readable : (word power : ℕ) → wordAnswer word ≡ Given.Power power → Readable word power
 unfolding wordAnswer
 readable word power e =
     let size = cond-passed (leb (2 ^ 50) word || leb 262_177_560 (callsignPart word)) e (refused-no-power _ power) in
@@ -159,7 +159,7 @@ readable word power e =
 -- ---- The cases of unpacking into lent buffers
 
 module _ (callsign locator : List ℕ) (word : ℕ) where
-  pub unpacked-length : rightLengths (length callsign) (length locator) ≡ false → unpacked callsign locator word ≡ Unpacked.Refused (refusal wrongLength 0)
+  pub unpacked-length : rightLengths (length callsign) (length locator) ≡ false → unpacked callsign locator word ≡ Given.Refused (refusal wrongLength 0)
   unfolding unpacked
   unpacked-length e = rw e
 
@@ -179,23 +179,23 @@ packed-answered callsign locator power =
     (cond-both P (ltb bad 10) (λ z. absurd (omega arith))
     (cond-both P (not (legalPower power)) (λ z. absurd (omega arith)) (λ z. refl)))
 
-pub unpacked-answered : (callsign locator : List ℕ) (word : ℕ) → unpackedNumbers (unpacked callsign locator word) .number ≡ 0
-    → unpacked callsign locator word ≡ Unpacked.Power (unpackedNumbers (unpacked callsign locator word) .power)
-unfolding unpacked wordAnswer unpackedNumbers
+pub unpacked-answered : (callsign locator : List ℕ) (word : ℕ) → givenNumbers (unpacked callsign locator word) .number ≡ 0
+    → unpacked callsign locator word ≡ Given.Power (givenNumbers (unpacked callsign locator word) .power)
+unfolding unpacked wordAnswer givenNumbers
 unpacked-answered callsign locator word =
-    let P : Unpacked → Type 0 = λ a. unpackedNumbers a .number ≡ 0 → a ≡ Unpacked.Power (unpackedNumbers a .power) in
+    let P : Given → Type 0 = λ a. givenNumbers a .number ≡ 0 → a ≡ Given.Power (givenNumbers a .power) in
     cond-both P (not (rightLengths (length callsign) (length locator))) (λ z. absurd (omega arith))
     (cond-both P (leb (2 ^ 50) word || leb 262_177_560 (callsignPart word)) (λ z. absurd (omega arith))
     (cond-both P (leb 32_400 (locatorPart word)) (λ z. absurd (omega arith))
     (cond-both P (ltb (powerPart word) 64 || not (legalPower (powerPart word - 64))) (λ z. absurd (omega arith)) (λ z. refl))))
 
-pub nonzero-refused : (answer : Unpacked) → (unpackedNumbers answer .number ≡ 0 → ⊥) → IsRefused answer
-unfolding unpackedNumbers
-nonzero-refused (Unpacked.Power p) nonzero = nonzero refl
-nonzero-refused (Unpacked.Refused f) nonzero = tt
+pub nonzero-refused : (answer : Given) → (givenNumbers answer .number ≡ 0 → ⊥) → IsRefused answer
+unfolding givenNumbers
+nonzero-refused (Given.Power p) nonzero = nonzero refl
+nonzero-refused (Given.Refused f) nonzero = tt
 
 pub refused-number : (callsign locator : List ℕ) (word : ℕ)
-    → IsRefused (unpacked callsign locator word) ↔ (unpackedNumbers (unpacked callsign locator word) .number ≡ 0 → ⊥)
-unfolding unpackedNumbers
+    → IsRefused (unpacked callsign locator word) ↔ (givenNumbers (unpacked callsign locator word) .number ≡ 0 → ⊥)
+unfolding givenNumbers
 refused-number callsign locator word =
     (λ refused zero. rw (unpacked-answered callsign locator word zero) at refused, λ nonzero. nonzero-refused (unpacked callsign locator word) nonzero)

@@ -11,7 +11,7 @@ use Rattle.message.specs.Word.{callsignNumber, locatorNumber, lowerNumbe
 use Rattle.message.specs.Answer.{rightLengths, packed, wordAnswer, unpacked, contentAfter, callsignAfter, locatorAfter}
 use Rattle.message.specs.RoundTrip.{ReadsAs, PacksBack, IsRefused, NeverMade, RefusesExactly}
 use Rattle.message.specs.declared.Packed.{Packed}
-use Rattle.message.specs.declared.Unpacked.{Unpacked}
+use Rattle.message.specs.declared.Given.{Given}
 use Rattle.power.proofs.Laws.{legal-power-end}
 use Rattle.message.proofs.WordLaws.{callsignNumber-below, callsignWithNumber-callsignNumber, callsignWithNumber-length, callsignWithNumber-legal, callsignNumber-callsignWithNumber, locatorNumber-below, locatorWithNumber-locatorNumber, locatorWithNumber-length, locatorWithNumber-legal, locatorNumber-locatorWithNumber, callsignPart-word, locatorPart-word, powerPart-word, word-below, word-of-parts}
 use Rattle.message.proofs.AnswerLaws.{right-lengths, packed-word, legal-whole, legal-of-packed, wordAnswer-power, readable, unpacked-read}
@@ -37,13 +37,13 @@ unpack-pack callsign locator power word e =
     let same : powerPart w - 64 ≡ power = omega arith in
     rw (made .1) (record {
       in-50-bits = word-below n m1 power within end below;
-      its-power = wordAnswer-power w (omega arith) (omega arith) (omega arith) (rw same (l .power-legal)) ∙ ap Unpacked.Power same;
+      its-power = wordAnswer-power w (omega arith) (omega arith) (omega arith) (rw same (l .power-legal)) ∙ ap Given.Power same;
       its-callsign = rw its-n (callsignWithNumber-callsignNumber callsign (l .six) (l .callsign-legal));
       its-locator = rw its-m1 (locatorWithNumber-locatorNumber locator (l .four) (l .locator-legal));
     })
 
 -- A word that is read packs back.
-pub pack-unpack : (word power : ℕ) → wordAnswer word ≡ Unpacked.Power power → packed (callsignOf word) (locatorOf word) power ≡ Packed.Word word
+pub pack-unpack : (word power : ℕ) → wordAnswer word ≡ Given.Power power → packed (callsignOf word) (locatorOf word) power ≡ Packed.Word word
 unfolding wordOf callsignOf locatorOf
 pack-unpack word power e =
     let r = readable word power e in
@@ -59,17 +59,17 @@ pack-unpack word power e =
 pub refuses-exactly : (word : ℕ) → IsRefused (wordAnswer word) ↔ NeverMade word
 refuses-exactly word = (λ refused callsign locator power made. never refused (unpack-pack callsign locator power word made .its-power), λ never-made. exact (wordAnswer word) refl never-made)
   where
-    never : {power : ℕ} → IsRefused (wordAnswer word) → wordAnswer word ≡ Unpacked.Power power → ⊥
+    never : {power : ℕ} → IsRefused (wordAnswer word) → wordAnswer word ≡ Given.Power power → ⊥
     never refused e = rw e at refused
 
-    exact : (answer : Unpacked) → wordAnswer word ≡ answer → NeverMade word → IsRefused answer
-    exact (Unpacked.Power p) e never-made = never-made _ _ p (pack-unpack word p e)
-    exact (Unpacked.Refused f) e never-made = tt
+    exact : (answer : Given) → wordAnswer word ≡ answer → NeverMade word → IsRefused answer
+    exact (Given.Power p) e never-made = never-made _ _ p (pack-unpack word p e)
+    exact (Given.Refused f) e never-made = tt
 
 -- ---- What unpacking into lent buffers promises, from its answer and what they then hold
 
 module _ (callsign locator : List ℕ) (word : ℕ) where
-  abbrev pub Promised : Unpacked → List ℕ → List ℕ → Type 0
+  abbrev pub Promised : Given → List ℕ → List ℕ → Type 0
   Promised answer its-callsign its-locator =
       (answer ≡ unpacked callsign locator word)
       × ((its-callsign ≡ callsignAfter callsign locator word)
@@ -80,12 +80,12 @@ module _ (callsign locator : List ℕ) (word : ℕ) where
   exactly : RefusesExactly (unpacked callsign locator word) word callsign locator
   exactly six four = rw (unpacked-read callsign locator word (right-lengths callsign locator six four)) (refuses-exactly word)
 
-  pub promised-refused : (f : Refusal) → unpacked callsign locator word ≡ Unpacked.Refused f → Promised (Unpacked.Refused f) callsign locator
+  pub promised-refused : (f : Refusal) → unpacked callsign locator word ≡ Given.Refused f → Promised (Given.Refused f) callsign locator
   unfolding callsignAfter locatorAfter contentAfter
   promised-refused f e = (sym e, (rw e, (rw e, (tt, rw e at exactly))))
 
-  pub promised-power : (power : ℕ) → rightLengths (length callsign) (length locator) ≡ true → wordAnswer word ≡ Unpacked.Power power
-      → Promised (Unpacked.Power power) (callsignOf word) (locatorOf word)
+  pub promised-power : (power : ℕ) → rightLengths (length callsign) (length locator) ≡ true → wordAnswer word ≡ Given.Power power
+      → Promised (Given.Power power) (callsignOf word) (locatorOf word)
   unfolding callsignAfter locatorAfter contentAfter
   promised-power power right read =
       let e = unpacked-read callsign locator word right ∙ read in

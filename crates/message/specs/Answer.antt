@@ -10,7 +10,7 @@ use Rattle.message.specs.Character.{firstBad}
 use Rattle.power.specs.Powers.{legalPower}
 use Rattle.message.specs.Word.{wordOf, callsignPart, locatorPart, powerPart, callsignOf, locatorOf}
 use Rattle.message.specs.declared.Packed.{Packed}
-use Rattle.message.specs.declared.Unpacked.{Unpacked}
+use Rattle.message.specs.declared.Given.{Given}
 
 -- The lengths are those of a callsign, 6, and of a locator, 4.
 unfoldable pub rightLengths : ℕ → ℕ → Bool
@@ -30,21 +30,21 @@ packed callsign locator power =
 -- ---- From a word to its message: "word 1 (if a buffer is lent), 4, 5, 6"
 
 -- A word's power, or why the word isn't a message's.
-unfoldable pub wordAnswer : ℕ → Unpacked
+unfoldable pub wordAnswer : ℕ → Given
 wordAnswer word =
-    cond (leb (2 ^ 50) word || leb 262_177_560 (callsignPart word)) (Unpacked.Refused (refusal wordTooLarge 0))
-    (cond (leb 32_400 (locatorPart word)) (Unpacked.Refused (refusal badLocatorNumber 0))
-    (cond (ltb (powerPart word) 64 || not (legalPower (powerPart word - 64))) (Unpacked.Refused (refusal badPowerBits 0))
-    (Unpacked.Power (powerPart word - 64))))
+    cond (leb (2 ^ 50) word || leb 262_177_560 (callsignPart word)) (Given.Refused (refusal wordTooLarge 0))
+    (cond (leb 32_400 (locatorPart word)) (Given.Refused (refusal badLocatorNumber 0))
+    (cond (ltb (powerPart word) 64 || not (legalPower (powerPart word - 64))) (Given.Refused (refusal badPowerBits 0))
+    (Given.Power (powerPart word - 64))))
 
 -- The answer, given what the lent callsign and locator hold.
-unfoldable pub unpacked : List ℕ → List ℕ → ℕ → Unpacked
-unpacked callsign locator word = cond (not (rightLengths (length callsign) (length locator))) (Unpacked.Refused (refusal wrongLength 0)) (wordAnswer word)
+unfoldable pub unpacked : List ℕ → List ℕ → ℕ → Given
+unpacked callsign locator word = cond (not (rightLengths (length callsign) (length locator))) (Given.Refused (refusal wrongLength 0)) (wordAnswer word)
 
 -- What a lent buffer holds after the answer: what it held where that is a refusal, else the characters.
-unfoldable pub contentAfter : Unpacked → List ℕ → List ℕ → List ℕ
-contentAfter (Unpacked.Power p) before characters = characters
-contentAfter (Unpacked.Refused f) before characters = before
+unfoldable pub contentAfter : Given → List ℕ → List ℕ → List ℕ
+contentAfter (Given.Power p) before characters = characters
+contentAfter (Given.Refused f) before characters = before
 
 -- What the lent callsign then holds.
 unfoldable pub callsignAfter : List ℕ → List ℕ → ℕ → List ℕ
@@ -78,6 +78,6 @@ pub record PowerNumbers : Type 0 where
   pub place : ℕ
   pub power : ℕ
 
-unfoldable pub unpackedNumbers : Unpacked → PowerNumbers
-unpackedNumbers (Unpacked.Power p) = record { number = 0; place = 0; power = p }
-unpackedNumbers (Unpacked.Refused f) = record { number = f .number; place = f .place; power = 0 }
+unfoldable pub givenNumbers : Given → PowerNumbers
+givenNumbers (Given.Power p) = record { number = 0; place = 0; power = p }
+givenNumbers (Given.Refused f) = record { number = f .number; place = f .place; power = 0 }

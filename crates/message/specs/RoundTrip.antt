@@ -8,12 +8,12 @@ use lib.ListN.{length}
 use Rattle.message.specs.Answer.{packed, wordAnswer}
 use Rattle.message.specs.Word.{callsignOf, locatorOf}
 use Rattle.message.specs.declared.Packed.{Packed}
-use Rattle.message.specs.declared.Unpacked.{Unpacked}
+use Rattle.message.specs.declared.Given.{Given}
 
 -- The word reads as this message.
 pub record ReadsAs (word : ℕ) (callsign locator : List ℕ) (power : ℕ) : Type 0 where
   pub in-50-bits : word < 2 ^ 50
-  pub its-power : wordAnswer word ≡ Unpacked.Power power
+  pub its-power : wordAnswer word ≡ Given.Power power
   pub its-callsign : callsignOf word ≡ callsign
   pub its-locator : locatorOf word ≡ locator
 
@@ -23,14 +23,14 @@ ReadsBack (Packed.Word w) callsign locator power = ReadsAs w callsign locator po
 ReadsBack (Packed.Refused f) callsign locator power = Unit
 
 -- What was read packs back: the callsign and locator with the answer's power, where it has one, have the word.
-abbrev pub PacksBack : Unpacked → ℕ → List ℕ → List ℕ → Type 0
-PacksBack (Unpacked.Power p) word callsign locator = packed callsign locator p ≡ Packed.Word word
-PacksBack (Unpacked.Refused f) word callsign locator = Unit
+abbrev pub PacksBack : Given → ℕ → List ℕ → List ℕ → Type 0
+PacksBack (Given.Power p) word callsign locator = packed callsign locator p ≡ Packed.Word word
+PacksBack (Given.Refused f) word callsign locator = Unit
 
 -- The answer is a refusal.
-abbrev pub IsRefused : Unpacked → Type 0
-IsRefused (Unpacked.Power p) = ⊥
-IsRefused (Unpacked.Refused f) = Unit
+abbrev pub IsRefused : Given → Type 0
+IsRefused (Given.Power p) = ⊥
+IsRefused (Given.Refused f) = Unit
 
 -- No message has this word. Lists of numbers that are no bytes and powers that are no u32 are never legal, so that nothing is added by
 -- naming them here.
@@ -38,5 +38,5 @@ abbrev pub NeverMade : ℕ → Type 0
 NeverMade word = (callsign locator : List ℕ) (power : ℕ) → packed callsign locator power ≡ Packed.Word word → ⊥
 
 -- With a callsign of six bytes and a locator of four lent, the answer is a refusal exactly where no message has the word.
-abbrev pub RefusesExactly : Unpacked → ℕ → List ℕ → List ℕ → Type 0
+abbrev pub RefusesExactly : Given → ℕ → List ℕ → List ℕ → Type 0
 RefusesExactly answer word callsign locator = length callsign ≡ 6 → length locator ≡ 4 → IsRefused answer ↔ NeverMade word

@@ -89,7 +89,7 @@ pub(crate) fn first_bad_of(callsign: &[u8], locator: &[u8]) -> usize
 
 // A character's value, counted from the lowest of its place's set: 0 below it, as the definition's
 // difference is.
-fn digit_at(place: usize, byte: u8) -> u64
+pub fn digit_at(place: usize, byte: u8) -> u64
     requires { ⌜ place < 10 ⌝ }
     ensures { λ r. ⌜ r ≡ digitAt place byte ⌝ }
 {
@@ -102,7 +102,7 @@ fn digit_at(place: usize, byte: u8) -> u64
 }
 
 // Writes the digits of the characters at the places from `start` on.
-pub(crate) fn read_digits(start: usize, bytes: &[u8], digits: &mut [u64])
+pub fn read_digits(start: usize, bytes: &[u8], digits: &mut [u64])
     requires { ⌜ start + length (now bytes) ≤ 10 ⌝ }
     requires { ⌜ length (now digits) ≡ length (now bytes) ⌝ }
     ensures { λ _. ⌜ now (digits .exit) ≡ digitsFrom start (now (bytes .entry)) ⌝ }
@@ -115,7 +115,7 @@ pub(crate) fn read_digits(start: usize, bytes: &[u8], digits: &mut [u64])
 }
 
 // Writes the characters of the digits at the places from `start` on.
-pub(crate) fn write_characters(start: usize, digits: &[u64], bytes: &mut [u8])
+pub fn write_characters(start: usize, digits: &[u64], bytes: &mut [u8])
     requires { ⌜ start + length (now bytes) ≤ 10 ⌝ }
     requires { ⌜ length (now digits) ≡ length (now bytes) ⌝ }
     requires { ⌜ DigitsAt start (now digits) ⌝ }

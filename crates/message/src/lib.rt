@@ -1,5 +1,5 @@
 // A WSPR type 1 message (callsign, locator, power) and its 50-bit word, both ways.
-mod character;
+pub mod character;
 mod word;
 
 ghost use mathlib.Core.Path.{_≡_};
@@ -16,14 +16,15 @@ pub enum Packed {
     Refused(Refusal),
 }
 
-// The answer of `unpack`, beside the callsign and the locator that it writes.
-pub enum Unpacked {
+// The answer of a function that gives a message: its power, beside the callsign and the locator that
+// are written.
+pub enum Given {
     Power(u32),
     Refused(Refusal),
 }
 
 // Both lengths are right: 6 for a callsign, 4 for a locator.
-fn right_lengths(callsign: usize, locator: usize) -> bool
+pub fn right_lengths(callsign: usize, locator: usize) -> bool
     ensures { λ r. ⌜ r ≡ rightLengths callsign locator ⌝ }
 {
     callsign == 6 && locator == 4
@@ -59,7 +60,7 @@ pub fn pack(callsign: &[u8], locator: &[u8], power: u32) -> Packed
 }
 
 // The message of a word: its callsign and locator are written, its power is the answer.
-pub fn unpack(word: u64, callsign: &mut [u8], locator: &mut [u8]) -> Unpacked
+pub fn unpack(word: u64, callsign: &mut [u8], locator: &mut [u8]) -> Given
     ensures answer { λ r. ⌜ r ≡ unpacked (now (callsign .entry)) (now (locator .entry)) word ⌝ }
     ensures callsign_after { λ _. ⌜ now (callsign .exit) ≡ callsignAfter (now (callsign .entry)) (now (locator .entry)) word ⌝ }
     ensures locator_after { λ _. ⌜ now (locator .exit) ≡ locatorAfter (now (callsign .entry)) (now (locator .entry)) word ⌝ }
@@ -67,16 +68,16 @@ pub fn unpack(word: u64, callsign: &mut [u8], locator: &mut [u8]) -> Unpacked
     ensures refuses_exactly { λ r. ⌜ RefusesExactly r word (now (callsign .entry)) (now (locator .entry)) ⌝ }
 {
     if !right_lengths(callsign.len(), locator.len()) {
-        return Unpacked::Refused(Refusal {
+        return Given::Refused(Refusal {
             number: WRONG_LENGTH,
             place: 0,
         });
     }
     let answer = word::read_word(word);
-    let Unpacked::Power(power) = answer else {
+    let Given::Power(power) = answer else {
         return answer;
     };
     word::write_callsign(word, callsign);
     word::write_locator(word, locator);
-    Unpacked::Power(power)
+    Given::Power(power)
 }

@@ -5,7 +5,7 @@ ghost use lib.ListN.{length};
 ghost use Rattle.message.specs.Character.{firstBad};
 ghost use Rattle.message.specs.Word.{callsignNumber, locatorNumber, lowerNumber, wordFrom, callsignPart, locatorPart, callsignOf, locatorOf};
 ghost use Rattle.message.specs.Answer.{wordAnswer};
-use super::Unpacked;
+use super::Given;
 use super::character::read_digits;
 use super::character::write_characters;
 use refusal::BAD_LOCATOR_NUMBER;
@@ -73,29 +73,29 @@ fn locator_part(word: u64) -> u64
 
 // The power of a word that is a message's, or why it isn't. A word of 2^50 or more has a callsign
 // number past the end too, so that one test serves for both.
-pub(crate) fn read_word(word: u64) -> Unpacked
+pub(crate) fn read_word(word: u64) -> Given
     ensures { λ r. ⌜ r ≡ wordAnswer word ⌝ }
 {
     if CALLSIGNS <= callsign_part(word) {
-        return Unpacked::Refused(Refusal {
+        return Given::Refused(Refusal {
             number: WORD_TOO_LARGE,
             place: 0,
         });
     }
     if LOCATORS <= locator_part(word) {
-        return Unpacked::Refused(Refusal {
+        return Given::Refused(Refusal {
             number: BAD_LOCATOR_NUMBER,
             place: 0,
         });
     }
     let bits = (word % 128) as u32;
     if bits < 64 || !power::is_legal(bits - 64) {
-        return Unpacked::Refused(Refusal {
+        return Given::Refused(Refusal {
             number: BAD_POWER_BITS,
             place: 0,
         });
     }
-    Unpacked::Power(bits - 64)
+    Given::Power(bits - 64)
 }
 
 // Writes the callsign of a word.

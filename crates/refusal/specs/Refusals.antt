@@ -40,3 +40,23 @@ wrongSync = 8
 -- "strict: no 50-bit word has this frame"
 abbrev pub noWord : ℕ
 noWord = 9
+
+-- "first character isn't 0, 1, Q, or a space in places 3 to 5"; its place is 0, or that place
+abbrev pub notTelemetry : ℕ
+notTelemetry = 10
+
+-- "B is even: extended, not basic"
+abbrev pub extendedTelemetry : ℕ
+extendedTelemetry = 11
+
+-- "A is 615,168 or more"
+abbrev pub badPositionNumber : ℕ
+badPositionNumber = 12
+
+-- "B is 604,800 or more"
+abbrev pub badSensorNumber : ℕ
+badSensorNumber = 13
+
+-- "a telemetry input is out of range"; its place is the first such, 0 to 8
+abbrev pub outOfRange : ℕ
+outOfRange = 14

@@ -24,3 +24,14 @@ pub const SYMBOL_TOO_LARGE: u32 = 7;
 pub const WRONG_SYNC: u32 = 8;
 // In strict reading no 50-bit word has the frame.
 pub const NO_WORD: u32 = 9;
+// In telemetry reading the first character isn't 0, 1 or Q (place 0), or there is a space in places
+// 3 to 5 (that place).
+pub const NOT_TELEMETRY: u32 = 10;
+// In telemetry reading the message is extended telemetry, not basic.
+pub const EXTENDED_TELEMETRY: u32 = 11;
+// In telemetry reading the number of the sub-square and altitude is past its end.
+pub const BAD_POSITION_NUMBER: u32 = 12;
+// In telemetry reading the number of temperature, voltage, speed and GPS is past its end.
+pub const BAD_SENSOR_NUMBER: u32 = 13;
+// In telemetry writing an input is out of range. Place: the first such, 0 to 8.
+pub const OUT_OF_RANGE: u32 = 14;

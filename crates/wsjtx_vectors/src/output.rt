@@ -3,7 +3,7 @@ use frame::Read;
 use frame::Written;
 use libc::STDOUT_FILENO;
 use message::Packed;
-use message::Unpacked;
+use message::Given;
 use refusal::Refusal;
 
 pub(crate) fn print(text: &[u8]) {
@@ -63,9 +63,9 @@ fn print_message(callsign: &[u8], locator: &[u8], power: u32) {
     io::print_decimal(STDOUT_FILENO, power as u64);
 }
 
-pub(crate) fn print_unpacked(unpacked: Unpacked, callsign: &[u8], locator: &[u8]) {
+pub(crate) fn print_unpacked(unpacked: Given, callsign: &[u8], locator: &[u8]) {
     match unpacked {
-        Unpacked::Power(power) => print_message(callsign, locator, power),
-        Unpacked::Refused(refusal) => print_refusal(refusal),
+        Given::Power(power) => print_message(callsign, locator, power),
+        Given::Refused(refusal) => print_refusal(refusal),
     }
 }

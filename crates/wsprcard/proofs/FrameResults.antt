@@ -2,9 +2,9 @@
 use mathlib.Core.Path.{_≡_, refl, ap, _∙_, subst}
 use Prim.Native.Nat.{ℕ}
 use mathlib.Core.List.{List}
-use Rattle.message.specs.Answer.{unpackedNumbers}
+use Rattle.message.specs.Answer.{givenNumbers}
 use Rattle.message.specs.RoundTrip.{IsRefused}
-use Rattle.message.specs.declared.Unpacked.{Unpacked}
+use Rattle.message.specs.declared.Given.{Given}
 use Rattle.message.proofs.AnswerLaws.{nonzero-refused}
 use Rattle.refusal.specs.Refusals.{refusal, noWord}
 use Rattle.frame.specs.Answer.{wordWritten, messageWritten, frameAfterWord, frameAfterMessage, wordRead, messageRead, callsignRead, locatorRead, readNumbers}
@@ -63,18 +63,18 @@ read-word-results frame answer r result (e, (back, (exactly, none))) =
     (λ n. none .0 (is-none n), λ given. ap (λ (a : Read). readNumbers a .number) (none .1 given)) in
     rw result (ap (λ (a : Read). wordResult (readNumbers a)) e, (writes, (refuses, nine)))
 
-pub read-message-results : (frame callsign locator : List ℕ) (answer : Unpacked) (its-callsign its-locator : List ℕ) (r : WsprMessage)
-    → r ≡ messageResult (unpackedNumbers answer) → ReadMessagePromised frame callsign locator answer its-callsign its-locator
-    → (r ≡ messageResult (unpackedNumbers (messageRead frame callsign locator)))
+pub read-message-results : (frame callsign locator : List ℕ) (answer : Given) (its-callsign its-locator : List ℕ) (r : WsprMessage)
+    → r ≡ messageResult (givenNumbers answer) → ReadMessagePromised frame callsign locator answer its-callsign its-locator
+    → (r ≡ messageResult (givenNumbers (messageRead frame callsign locator)))
     × ((its-callsign ≡ callsignRead frame callsign locator)
     × ((its-locator ≡ locatorRead frame callsign locator)
     × (MessageWritesFrame r frame its-callsign its-locator × MessageFrameRefusedExactly r frame callsign locator)))
 unfolding messageResult
 read-message-results frame callsign locator answer its-callsign its-locator r result (e, (call, (loc, (back, exactly)))) =
-    let answered : unpackedNumbers answer .number ≡ 0 → answer ≡ Unpacked.Power (unpackedNumbers answer .power) =
+    let answered : givenNumbers answer .number ≡ 0 → answer ≡ Given.Power (givenNumbers answer .power) =
     rw e (message-read-answered frame callsign locator) in
-    let writes : MessageWritesFrame (messageResult (unpackedNumbers answer)) frame its-callsign its-locator =
-    λ z. subst (λ (a : Unpacked). MessageWritesBack a frame its-callsign its-locator) (answered z) back in
-    let refuses : MessageFrameRefusedExactly (messageResult (unpackedNumbers answer)) frame callsign locator =
+    let writes : MessageWritesFrame (messageResult (givenNumbers answer)) frame its-callsign its-locator =
+    λ z. subst (λ (a : Given). MessageWritesBack a frame its-callsign its-locator) (answered z) back in
+    let refuses : MessageFrameRefusedExactly (messageResult (givenNumbers answer)) frame callsign locator =
     λ six four. (λ nonzero. exactly six four .0 (nonzero-refused answer nonzero), λ never z. subst IsRefused (answered z) (exactly six four .1 never)) in
-    rw result (ap (λ (a : Unpacked). messageResult (unpackedNumbers a)) e, (call, (loc, (writes, refuses))))
+    rw result (ap (λ (a : Given). messageResult (givenNumbers a)) e, (call, (loc, (writes, refuses))))

@@ -1,13 +1,13 @@
 // The card's functions for a host in C, over include/wsprcard.h: each is a thin layer over that of
 // its crate, with the answer's result numbers in a struct.
 ghost use mathlib.Core.Path.{_≡_};
-ghost use Rattle.message.specs.Answer.{packed, unpacked, callsignAfter, locatorAfter, packedNumbers, unpackedNumbers, wordGiven, wordRefused};
+ghost use Rattle.message.specs.Answer.{packed, unpacked, callsignAfter, locatorAfter, packedNumbers, givenNumbers, wordGiven, wordRefused};
 ghost use Rattle.frame.specs.Answer.{wordWritten, messageWritten, frameAfterWord, frameAfterMessage, wordRead, messageRead, callsignRead, locatorRead, readNumbers};
 ghost use Rattle.wsprcard.specs.Results.{writtenResult, wordResult, messageResult, PackedReadsBack, MessagePacksBack, UnpackRefusedExactly, FrameReadsAsWord, FrameReadsAsMessage, WordWritesFrame, FrameRefusedExactly, NoWordExactly, MessageWritesFrame, MessageFrameRefusedExactly};
 use frame::Read;
 use frame::Written;
 use message::Packed;
-use message::Unpacked;
+use message::Given;
 use refusal::Refusal;
 
 // Refusal number (0: success) and place.
@@ -72,16 +72,16 @@ fn refused_word(refusal: Refusal) -> WsprWord
 }
 
 // The result of reading a message.
-fn message_result(answer: Unpacked) -> WsprMessage
-    ensures { λ r. ⌜ r ≡ messageResult (unpackedNumbers answer) ⌝ }
+fn message_result(answer: Given) -> WsprMessage
+    ensures { λ r. ⌜ r ≡ messageResult (givenNumbers answer) ⌝ }
 {
     match answer {
-        Unpacked::Power(power) => WsprMessage {
+        Given::Power(power) => WsprMessage {
             refusal: 0,
             place: 0,
             power,
         },
-        Unpacked::Refused(refusal) => WsprMessage {
+        Given::Refused(refusal) => WsprMessage {
             refusal: refusal.number,
             place: refusal.place,
             power: 0,
@@ -104,7 +104,7 @@ pub extern "C" fn wspr_pack(callsign: &[u8], locator: &[u8], power: u32) -> Wspr
 // The message of a word: its callsign and locator are written, its power is returned.
 #[no_mangle]
 pub extern "C" fn wspr_unpack(word: u64, callsign: &mut [u8], locator: &mut [u8]) -> WsprMessage
-    ensures answer { λ r. ⌜ r ≡ messageResult (unpackedNumbers (unpacked (now (callsign .entry)) (now (locator .entry)) word)) ⌝ }
+    ensures answer { λ r. ⌜ r ≡ messageResult (givenNumbers (unpacked (now (callsign .entry)) (now (locator .entry)) word)) ⌝ }
     ensures callsign_after { λ _. ⌜ now (callsign .exit) ≡ callsignAfter (now (callsign .entry)) (now (locator .entry)) word ⌝ }
     ensures locator_after { λ _. ⌜ now (locator .exit) ≡ locatorAfter (now (callsign .entry)) (now (locator .entry)) word ⌝ }
     ensures packs_back { λ r. ⌜ MessagePacksBack r word (now (callsign .exit)) (now (locator .exit)) ⌝ }
@@ -159,7 +159,7 @@ pub extern "C" fn wspr_read_message(
     callsign: &mut [u8],
     locator: &mut [u8],
 ) -> WsprMessage
-    ensures answer { λ r. ⌜ r ≡ messageResult (unpackedNumbers (messageRead (now (frame .entry)) (now (callsign .entry)) (now (locator .entry)))) ⌝ }
+    ensures answer { λ r. ⌜ r ≡ messageResult (givenNumbers (messageRead (now (frame .entry)) (now (callsign .entry)) (now (locator .entry)))) ⌝ }
     ensures callsign_after { λ _. ⌜ now (callsign .exit) ≡ callsignRead (now (frame .entry)) (now (callsign .entry)) (now (locator .entry)) ⌝ }
     ensures locator_after { λ _. ⌜ now (locator .exit) ≡ locatorRead (now (frame .entry)) (now (callsign .entry)) (now (locator .entry)) ⌝ }
     ensures writes_back { λ r. ⌜ MessageWritesFrame r (now (frame .entry)) (now (callsign .exit)) (now (locator .exit)) ⌝ }

@@ -1,0 +1,121 @@
+// The codes of what is measured, the two numbers that hold them, and the readings back.
+ghost use mathlib.Core.Path.{_≡_};
+ghost use mathlib.Core.Bool.{true};
+ghost use Prim.Native.Nat.{_≤_};
+ghost use Rattle.telemetry.specs.Ranges.{temperatureInRange, firstOutOfRange};
+ghost use Rattle.telemetry.specs.Codes.{temperatureCode, voltageCode, degrees, millivolts};
+ghost use Rattle.telemetry.specs.Numbers.{positionNumber, sensorNumber, readingOf};
+ghost use Rattle.telemetry.specs.Answer.{numbersAnswer};
+use super::Decoded;
+use super::Measured;
+use super::Reading;
+use refusal::BAD_POSITION_NUMBER;
+use refusal::BAD_SENSOR_NUMBER;
+use refusal::EXTENDED_TELEMETRY;
+use refusal::Refusal;
+
+// For the two letters of the sub-square and the altitude's code, and how many numbers they make.
+const POSITION_RADICES: [u64; 3] = [24, 24, 1_068];
+
+const POSITIONS: u64 = 615_168;
+
+// For the codes of temperature, voltage and speed, GPS and the 1 of basic telemetry, and how many
+// numbers they make.
+const SENSOR_RADICES: [u64; 5] = [90, 40, 42, 2, 2];
+
+const SENSORS: u64 = 604_800;
+
+// Signed division drops the tenths toward zero.
+fn temperature_code(tenths: i32) -> u64
+    requires { ⌜ temperatureInRange tenths ≡ true ⌝ }
+    ensures { λ r. ⌜ r ≡ temperatureCode tenths ⌝ }
+{
+    (tenths / 10 + 50) as u64
+}
+
+fn voltage_code(voltage: u32) -> u64
+    requires { ⌜ 3_000 ≤ voltage ⌝ }
+    ensures { λ r. ⌜ r ≡ voltageCode voltage ⌝ }
+{
+    ((voltage - 2_000) / 50 % 40) as u64
+}
+
+// The number of the sub-square and altitude (01: A).
+pub(crate) fn position_number(m: Measured) -> u64
+    requires { ⌜ firstOutOfRange m ≡ 9 ⌝ }
+    ensures { λ r. ⌜ r ≡ positionNumber m ⌝ }
+{
+    let digits = [(m.grid5 - b'A') as u64, (m.grid6 - b'A') as u64, (m.altitude / 20) as u64];
+    radix::pack(&POSITION_RADICES, &digits)
+}
+
+// The number of temperature, voltage, speed and GPS (01: B).
+pub(crate) fn sensor_number(m: Measured) -> u64
+    requires { ⌜ firstOutOfRange m ≡ 9 ⌝ }
+    ensures { λ r. ⌜ r ≡ sensorNumber m ⌝ }
+{
+    let temperature = temperature_code(m.temperature);
+    let voltage = voltage_code(m.voltage);
+    let digits = [temperature, voltage, (m.speed / 20) as u64, m.gps as u64, 1];
+    radix::pack(&SENSOR_RADICES, &digits)
+}
+
+fn degrees_of(code: u64) -> i32
+    requires { ⌜ code ≤ 89 ⌝ }
+    ensures { λ r. ⌜ r ≡ degrees code ⌝ }
+{
+    code as i32 - 50
+}
+
+fn millivolts_of(code: u64) -> u32
+    requires { ⌜ code ≤ 39 ⌝ }
+    ensures { λ r. ⌜ r ≡ millivolts code ⌝ }
+{
+    (3_000 + 50 * ((code + 20) % 40)) as u32
+}
+
+// The readings in the two numbers.
+fn reading_of(first: u8, third: u8, position: u64, sensors: u64) -> Reading
+    ensures { λ r. ⌜ r ≡ readingOf first third position sensors ⌝ }
+{
+    let mut p = [0u64; 3];
+    radix::unpack(position, &POSITION_RADICES, &mut p);
+    let mut s = [0u64; 5];
+    radix::unpack(sensors, &SENSOR_RADICES, &mut s);
+    Reading {
+        first,
+        third,
+        grid5: p[0] as u8 + b'A',
+        grid6: p[1] as u8 + b'A',
+        altitude: (p[2] * 20) as u32,
+        temperature: degrees_of(s[0]),
+        voltage: millivolts_of(s[1]),
+        speed: (s[2] * 2) as u32,
+        gps: s[3] as u32,
+    }
+}
+
+// The readings in the two numbers, where they are those of basic telemetry.
+pub(crate) fn read_numbers(first: u8, third: u8, position: u64, sensors: u64) -> Decoded
+    ensures { λ r. ⌜ r ≡ numbersAnswer first third position sensors ⌝ }
+{
+    if sensors % 2 == 0 {
+        return Decoded::Refused(Refusal {
+            number: EXTENDED_TELEMETRY,
+            place: 0,
+        });
+    }
+    if POSITIONS <= position {
+        return Decoded::Refused(Refusal {
+            number: BAD_POSITION_NUMBER,
+            place: 0,
+        });
+    }
+    if SENSORS <= sensors {
+        return Decoded::Refused(Refusal {
+            number: BAD_SENSOR_NUMBER,
+            place: 0,
+        });
+    }
+    Decoded::Telemetry(reading_of(first, third, position, sensors))
+}

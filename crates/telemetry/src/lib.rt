@@ -1,0 +1,97 @@
+// U4B basic telemetry: what a balloon measured, to and from a message.
+mod callsign;
+mod codes;
+mod locator;
+mod range;
+
+ghost use mathlib.Core.Path.{_≡_};
+ghost use Rattle.telemetry.specs.Answer.{written, callsignAfter, locatorAfter, decoded};
+ghost use Rattle.telemetry.specs.RoundTrip.{ReadsBack, WritesBack, RefusesExactly};
+use message::Given;
+use message::Packed;
+use refusal::NOT_TELEMETRY;
+use refusal::OUT_OF_RANGE;
+use refusal::Refusal;
+use refusal::WRONG_LENGTH;
+
+// What is sent: the channel's two characters, the two letters of the sub-square, and what was
+// measured, in metres, tenths of a degree, millivolts and tenths of a knot; GPS is 0 or 1.
+pub struct Measured {
+    pub first: u8,
+    pub third: u8,
+    pub grid5: u8,
+    pub grid6: u8,
+    pub altitude: u32,
+    pub temperature: i32,
+    pub voltage: u32,
+    pub speed: u32,
+    pub gps: u32,
+}
+
+// What is read back, in metres, degrees, millivolts and knots.
+pub struct Reading {
+    pub first: u8,
+    pub third: u8,
+    pub grid5: u8,
+    pub grid6: u8,
+    pub altitude: u32,
+    pub temperature: i32,
+    pub voltage: u32,
+    pub speed: u32,
+    pub gps: u32,
+}
+
+// The answer of `read`.
+pub enum Decoded {
+    Telemetry(Reading),
+    Refused(Refusal),
+}
+
+// The message of what was measured: its callsign and locator are written, its power is the answer.
+pub fn write(measured: Measured, callsign: &mut [u8], locator: &mut [u8]) -> Given
+    ensures answer { λ r. ⌜ r ≡ written (now (callsign .entry)) (now (locator .entry)) measured ⌝ }
+    ensures callsign_after { λ _. ⌜ now (callsign .exit) ≡ callsignAfter (now (callsign .entry)) (now (locator .entry)) measured ⌝ }
+    ensures locator_after { λ _. ⌜ now (locator .exit) ≡ locatorAfter (now (callsign .entry)) (now (locator .entry)) measured ⌝ }
+    ensures reads_back { λ r. ⌜ ReadsBack r measured (now (callsign .exit)) (now (locator .exit)) ⌝ }
+{
+    if !message::right_lengths(callsign.len(), locator.len()) {
+        return Given::Refused(Refusal {
+            number: WRONG_LENGTH,
+            place: 0,
+        });
+    }
+    let bad = range::first_out_of_range(measured);
+    if bad < 9 {
+        return Given::Refused(Refusal {
+            number: OUT_OF_RANGE,
+            place: bad,
+        });
+    }
+    let position = codes::position_number(measured);
+    let sensors = codes::sensor_number(measured);
+    callsign::write_callsign(measured.first, measured.third, position, callsign);
+    Given::Power(locator::write_locator(sensors, locator))
+}
+
+// What a message says, where it is one of basic telemetry. What isn't a message is refused as when it
+// is packed.
+pub fn read(callsign: &[u8], locator: &[u8], power: u32) -> Decoded
+    ensures answer { λ r. ⌜ r ≡ decoded (now (callsign .entry)) (now (locator .entry)) power ⌝ }
+    ensures writes_back { λ r. ⌜ WritesBack r (now (callsign .entry)) (now (locator .entry)) power ⌝ }
+    ensures refuses_exactly { λ r. ⌜ RefusesExactly r (now (callsign .entry)) (now (locator .entry)) power ⌝ }
+{
+    let packed = message::pack(callsign, locator, power);
+    if let Packed::Refused(refusal) = packed {
+        return Decoded::Refused(refusal);
+    }
+    let place = callsign::first_foreign(callsign);
+    if place < 6 {
+        return Decoded::Refused(Refusal {
+            number: NOT_TELEMETRY,
+            place: place as u32,
+        });
+    }
+    let position = callsign::position_of(callsign);
+    let sensors = locator::sensors_of(locator, power);
+    codes::read_numbers(callsign[0], callsign[2], position, sensors)
+}
