@@ -2,9 +2,9 @@
 use mathlib.Core.Path.{_≡_, refl}
 use Prim.Native.Nat.{ℕ, _≤_, _<_}
 use mathlib.Core.Bool.{Bool, true, false, true≢false, false≢true, cond, _&&_, _||_}
-use lib.Dec.{eqb, ltb}
+use lib.Dec.{eqb, leb, ltb}
 use Rattle.basics.specs.Test.{between}
-use borrow.Author.Tests.{le-leb, lt-leb, ltb-true, ltb-false, eqb-true, eqb-false}
+use borrow.Author.Tests.{le-leb, lt-leb, leb-true, ltb-true, ltb-false, eqb-true, eqb-false}
 
 -- ---- Tests
 
@@ -24,6 +24,11 @@ between-below low high b h = rw (lt-leb low b h)
 
 pub between-above : (low high b : ℕ) → low ≤ b → high < b → between low high b ≡ false
 between-above low high b h k = rw (le-leb low b h, lt-leb b high k)
+
+pub between-range : (low high b : ℕ) → between low high b ≡ true → (low ≤ b) × (b ≤ high)
+between-range low high b e =
+    let tests = both-true (leb low b) (leb b high) e in
+    (leb-true low b (tests .0), leb-true b high (tests .1))
 
 -- ---- Choices
 

@@ -1,4 +1,5 @@
--- Laws of lists by their places: a list by a rule, the first place where a test fails, and whether two lists are the same.
+-- Laws of lists by their places: a list by a rule, the first place where a test fails, the first test that is false, and whether two
+-- lists are the same.
 use mathlib.Core.Path.{_≡_, refl, sym, ap, _∙_}
 use Prim.Native.Nat.{ℕ, zero, suc, _+_, _≤_, _<_}
 use native.Mathlib.Nat.{add-suc, add-zero, suc-add, zero-add}
@@ -10,7 +11,7 @@ use lib.Dec.{eqb}
 use lib.ListN.{length, getD, drop, length-drop, drop-of-length-le}
 use lib.Seq.{drop-cons, drop-drop, getD-drop, ext-getD}
 use borrow.Author.Tests.{eqb-true, eq-eqb}
-use Rattle.basics.specs.Lists.{tabulate, firstFailing, sameList}
+use Rattle.basics.specs.Lists.{tabulate, firstFailing, firstFalse, sameList}
 use Rattle.basics.proofs.Choice.{both-true, by-test}
 
 -- ---- A list from an index on
@@ -113,7 +114,11 @@ module _ (test : ℕ → ℕ → Bool) where
       (λ e. rw e (firstFailing-first (suc place) xs ys (omega (arith, first-passed place x xs e))))
       (λ e. rw e refl)
 
-  -- A loop that looks for it, from an index on.
+  -- A loop that looks for it from place 0 on, before a turn: the first failing place from here on is that of the whole list.
+  abbrev pub Searching : List ℕ → ℕ → Type 0
+  Searching xs i = (i ≤ length xs) × (firstFailing test i (drop i xs) ≡ firstFailing test 0 xs)
+
+  -- The turns of a loop that looks for it, from an index on.
   module _ (xs : List ℕ) (i place : ℕ) where
     pub search-failed : i < length xs → test place (getD xs i 0) ≡ false → firstFailing test place (drop i xs) ≡ place
     search-failed h e = rw (drop-cons xs i 0 h) (first-failed place (getD xs i 0) (drop (suc i) xs) e)
@@ -125,6 +130,33 @@ module _ (test : ℕ → ℕ → Bool) where
     pub search-over : length xs ≤ i → firstFailing test place (drop i xs) ≡ place
     unfolding firstFailing
     search-over h = rw (drop-of-length-le xs h)
+
+-- ---- The first test that is false
+
+pub false-first : (place : ℕ) (t : Bool) (ts : List Bool) → t ≡ false → firstFalse place (t ∷ ts) ≡ place
+unfolding firstFalse
+false-first place t ts e = rw e
+
+pub true-first : (place : ℕ) (t : Bool) (ts : List Bool) → t ≡ true → firstFalse place (t ∷ ts) ≡ firstFalse (suc place) ts
+unfolding firstFalse
+true-first place t ts e = rw e
+
+-- Every test is true.
+unfoldable pub AllTrue : List Bool → Type 0
+AllTrue [] = Unit
+AllTrue (t ∷ ts) = (t ≡ true) × AllTrue ts
+
+-- None is false exactly where all are true.
+pub all-true : (place : ℕ) (ts : List Bool) → place + length ts ≤ firstFalse place ts → AllTrue ts
+unfolding AllTrue firstFalse
+all-true place [] h = tt
+all-true place (true ∷ ts) h = (refl, all-true (suc place) ts (omega arith))
+all-true place (false ∷ ts) h = absurd (omega arith)
+
+pub none-false : (place : ℕ) (ts : List Bool) → AllTrue ts → firstFalse place ts ≡ place + length ts
+unfolding AllTrue firstFalse
+none-false place [] h = omega arith
+none-false place (t ∷ ts) h = rw (h .0) (none-false (suc place) ts (h .1) ∙ omega arith)
 
 -- ---- Whether two lists are the same
 

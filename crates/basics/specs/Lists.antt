@@ -1,4 +1,5 @@
--- Lists by their places: a list by a rule, the first place where a test fails, and whether two lists are the same.
+-- Lists by their places: a list by a rule, the first place where a test fails, the first test that is false, and whether two lists are
+-- the same.
 use Prim.Native.Nat.{ℕ, zero, suc}
 use mathlib.Core.Bool.{Bool, true, false, cond, _&&_}
 use mathlib.Core.List.{List, [], _∷_}
@@ -14,14 +15,14 @@ unfoldable pub firstFailing : (ℕ → ℕ → Bool) → ℕ → List ℕ → �
 firstFailing test place [] = place
 firstFailing test place (x ∷ xs) = cond (test place x) (firstFailing test (suc place) xs) place
 
+-- The place of the first test that is false, the first having the given one; past the last where there is none.
+unfoldable pub firstFalse : ℕ → List Bool → ℕ
+firstFalse place [] = place
+firstFalse place (t ∷ ts) = cond t (firstFalse (suc place) ts) place
+
 -- The two lists are the same.
 unfoldable pub sameList : List ℕ → List ℕ → Bool
 sameList [] [] = true
 sameList [] (y ∷ ys) = false
 sameList (x ∷ xs) [] = false
 sameList (x ∷ xs) (y ∷ ys) = eqb x y && sameList xs ys
-
--- The place of the first test that is false, the first having the given one; past the last where there is none.
-unfoldable pub firstFalse : ℕ → List Bool → ℕ
-firstFalse place [] = place
-firstFalse place (t ∷ ts) = cond t (firstFalse (suc place) ts) place

@@ -105,12 +105,6 @@ frame-by-data word frame form e =
     let whole : syncAt place + 2 * getD (codedBits word) (orderOf place) 0 ≡ getD frame place 0 = omega (arith, form .right-sync place within) in
     getD-frameOf word place within ∙ whole)
 
--- ---- The searches for the first wrong symbol
-
--- Before a turn: the first wrong place from here on is that of the whole frame.
-abbrev pub Searching : (ℕ → ℕ → Bool) → List ℕ → ℕ → Type 0
-Searching test frame place = (place ≤ length frame) × (firstFailing test place (drop place frame) ≡ firstFailing test 0 frame)
-
 -- ---- The right form, by the first place that hasn't it
 
 module _ (frame : List ℕ) where

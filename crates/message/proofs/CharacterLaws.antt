@@ -63,7 +63,7 @@ value-character {v} h =
     (λ d. below-or-not v 36 (λ l. rw (character-letter d l) (value-letter (omega arith) (omega arith) ∙ omega arith))
     (λ l. rw (character-space l) (value-space ∙ omega arith)))
 
-character-value : (b : ℕ) → value b < 37 → character (value b) ≡ b
+pub character-value : (b : ℕ) → value b < 37 → character (value b) ≡ b
 character-value b h =
     below-or-not b 48
     (λ d. equal-or-not b 32 (λ e. rw (e, value-space) (character-space (omega arith)))
@@ -98,7 +98,7 @@ set-end place = leb-true _ _ (every-at (λ (s : CharacterSet). leb (s .lowest + 
 
 -- ---- Legal characters
 
-legal-from : (place b : ℕ) → setAt place .lowest ≤ value b → value b < setAt place .lowest + setAt place .size → legalAt place b ≡ true
+pub legal-from : (place b : ℕ) → setAt place .lowest ≤ value b → value b < setAt place .lowest + setAt place .size → legalAt place b ≡ true
 unfolding legalAt
 legal-from place b h k = rw (le-leb _ _ h, lt-ltb _ _ k)
 
@@ -106,7 +106,7 @@ legal-lowest : (place b : ℕ) → legalAt place b ≡ true → setAt place .low
 unfolding legalAt
 legal-lowest place b e = leb-true _ _ (both-true (leb (setAt place .lowest) (value b)) _ e .0)
 
-legal-end : (place b : ℕ) → legalAt place b ≡ true → value b < setAt place .lowest + setAt place .size
+pub legal-end : (place b : ℕ) → legalAt place b ≡ true → value b < setAt place .lowest + setAt place .size
 unfolding legalAt
 legal-end place b e = ltb-true _ _ (both-true (leb (setAt place .lowest) (value b)) _ e .1)
 

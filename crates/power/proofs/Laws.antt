@@ -6,7 +6,7 @@ use mathlib.Core.Bool.{true}
 use mathlib.Core.List.{List, [], _∷_}
 use lib.Dec.{eqb, leb}
 use lib.ListN.{length, getD, List·getD-eq-default}
-use borrow.Author.Tests.{ltb-true, leb-true, eqb-true, eq-eqb, ne-eqb}
+use borrow.Author.Tests.{lt-ltb, ltb-true, leb-true, eqb-true, eq-eqb, ne-eqb}
 use Rattle.basics.proofs.Choice.{equal-or-not, below-or-not}
 use Rattle.basics.proofs.Tables.{every-at, below-at}
 use Rattle.power.specs.Powers.{powers, indexIn, powerIndex, powerAt, legalPower}
@@ -31,9 +31,13 @@ unfolding powerIndex powerAt powers indexIn
 powerIndex-powerAt index h =
     eqb-true _ _ (below-at (λ (i : ℕ). eqb (powerIndex (powerAt i)) i) 19 refl index h)
 
-legal-index : (power : ℕ) → legalPower power ≡ true → powerIndex power < 19
+pub legal-index : (power : ℕ) → legalPower power ≡ true → powerIndex power < 19
 unfolding legalPower powers
 legal-index power e = ltb-true _ _ e
+
+pub legal-powerAt : (index : ℕ) → index < 19 → legalPower (powerAt index) ≡ true
+unfolding legalPower powers
+legal-powerAt index h = rw (powerIndex-powerAt index h) (lt-ltb index 19 h)
 
 pub legal-power-end : (power : ℕ) → legalPower power ≡ true → power ≤ 60
 unfolding powerAt powers

@@ -87,10 +87,10 @@ fn reading_of(first: u8, third: u8, position: u64, sensors: u64) -> Reading
         third,
         grid5: p[0] as u8 + b'A',
         grid6: p[1] as u8 + b'A',
-        altitude: (p[2] * 20) as u32,
+        altitude: (20 * p[2]) as u32,
         temperature: degrees_of(s[0]),
         voltage: millivolts_of(s[1]),
-        speed: (s[2] * 2) as u32,
+        speed: (2 * s[2]) as u32,
         gps: s[3] as u32,
     }
 }

@@ -8,7 +8,12 @@ use super::Measured;
 pub(crate) fn is_first(byte: u8) -> bool
     ensures { λ r. ⌜ r ≡ isFirst byte ⌝ }
 {
-    byte == b'0' || byte == b'1' || byte == b'Q'
+    match byte {
+        b'0' => true,
+        b'1' => true,
+        b'Q' => true,
+        _ => false,
+    }
 }
 
 // A number is one of `low` to `high`.

@@ -8,10 +8,10 @@ use mathlib.Core.List.{List}
 use lib.ListN.{length, getD}
 use borrow.Author.Needs.{needs}
 use borrow.Author.Tests.{eq-eqb, ne-eqb}
-use Rattle.basics.proofs.ListLaws.{search-failed, search-passed, search-over}
+use Rattle.basics.proofs.ListLaws.{Searching, search-failed, search-passed, search-over}
 use Rattle.frame.specs.Symbols.{syncAt}
 use Rattle.frame.specs.Answer.{synced, firstWrongSync}
-use Rattle.frame.proofs.SymbolLaws.{getD-sync, Searching}
+use Rattle.frame.proofs.SymbolLaws.{getD-sync}
 use Rattle.frame.proofs.symbols.first_wrong_sync.Statement.{statement}
 use Rattle.frame.proofs.symbols.first_wrong_sync.Tie as tie
 

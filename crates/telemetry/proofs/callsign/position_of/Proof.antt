@@ -1,0 +1,68 @@
+-- `telemetry::callsign::position_of` meets its contract: the digits of places 1, 3, 4, 5 are below their radices, and `radix::pack` makes their
+-- number.
+-- Assumes nothing.
+use mathlib.Core.Path.{_≡_, ap, _∙_}
+use Prim.Native.Nat.{ℕ}
+use native.Mathlib.Omega.{arith}
+use mathlib.Core.List.{List}
+use borrow.Author.Needs.{needs}
+use Rattle.radix.specs.Numeral.{numberOf}
+use Rattle.telemetry.specs.Characters.{callsignRadices, positionOf}
+use Rattle.telemetry.proofs.CallsignLaws.{fourDigits, callsign-count, position-digits-in}
+use borrow.Author.Needs.{needs}
+use Rattle.telemetry.proofs.callsign.position_of.Statement.{statement}
+use Rattle.telemetry.proofs.callsign.position_of.Tie as tie
+use Rattle.message.proofs.character.read_digits.Reads as read-digits-reads
+use Rattle.radix.proofs.pack.Reads as pack-reads
+
+slice-aggregate-read-digits : tie.Need-slice-aggregate-read-digits
+slice-aggregate-read-digits c = search needs
+
+read-digits-requires : tie.Need-read-digits-requires
+read-digits-requires c κs = search needs
+
+slice-aggregate-pack : tie.Need-slice-aggregate-pack
+slice-aggregate-pack c = search needs
+
+array-read-t12 : tie.Need-array-read-t12
+array-read-t12 c = search needs
+
+array-read-t15 : tie.Need-array-read-t15
+array-read-t15 c = search needs
+
+array-read-t18 : tie.Need-array-read-t18
+array-read-t18 c = search needs
+
+array-read-t21 : tie.Need-array-read-t21
+array-read-t21 c = search needs
+
+slice-aggregate-pack-2 : tie.Need-slice-aggregate-pack-2
+slice-aggregate-pack-2 c = search needs
+
+pack-requires : tie.Need-pack-requires
+unfolding callsignRadices
+pack-requires c κs =
+    let r = c .before .before .before in
+    let a = r .before .before .before in
+    (rw (r .read-digits .ensures) (position-digits-in (a .args .callsign .now) (a .pre .0) (a .pre .1 .0) (a .pre .1 .1)), omega (arith, callsign-count))
+
+returns : tie.Need-returns
+unfolding callsignRadices positionOf
+returns c =
+    let r = c .before .before .before .before in
+    c .pack .ensures ∙ ap (λ (d : List ℕ). numberOf callsignRadices (fourDigits d)) (r .read-digits .ensures)
+
+pub position-of-spec : {M : Type 1} → statement M
+position-of-spec =
+    tie.close
+    (tie.spec
+    slice-aggregate-read-digits
+    read-digits-requires
+    slice-aggregate-pack
+    array-read-t12
+    array-read-t15
+    array-read-t18
+    array-read-t21
+    slice-aggregate-pack-2
+    pack-requires
+    returns)
