@@ -9,14 +9,14 @@ use lib.ListN.{length, getD}
 use borrow.Author.Tests.{eqb-true, eq-eqb, ne-eqb}
 use Rattle.basics.specs.Test.{between}
 use Rattle.basics.specs.Lists.{tabulate}
-use Rattle.basics.proofs.Choice.{by-test, equal-or-not, between-range}
+use Rattle.basics.proofs.Choice.{by-test, equal-or-not, between-true, between-range}
 use Rattle.basics.proofs.ListLaws.{AllPass, all-pass, none-fails, by-rule}
 use Rattle.radix.specs.Numeral.{Digits, Positive, count, numberOf, digitsOf}
 use Rattle.radix.proofs.Laws.{number-below, digits-in-range, digitsOf-numberOf, numberOf-digitsOf}
 use Rattle.power.specs.Powers.{powerIndex, powerAt, legalPower}
 use Rattle.power.proofs.Laws.{powerAt-powerIndex, powerIndex-powerAt, legal-index}
 use Rattle.message.specs.Character.{value, character, firstBad, setAt, callsignSets, locatorSets, legalAt, digitAt, characterAt, overPlaces, digitsFrom, charactersFrom, DigitsAt}
-use Rattle.message.proofs.CharacterLaws.{AllLegal, value-digit, character-letter, character-space, character-value, legal-from, legal-end, digits-of-legal, characters-of-digits, legal-of-digits, digits-of-characters, length-digitsFrom, length-charactersFrom}
+use Rattle.message.proofs.CharacterLaws.{AllLegal, value-digit, character-digit, character-letter, character-space, character-value, legal-from, legal-end, digits-of-legal, characters-of-digits, legal-of-digits, digits-of-characters, length-digitsFrom, length-charactersFrom}
 use Rattle.telemetry.specs.Ranges.{isFirst}
 use Rattle.telemetry.specs.Characters.{callsignRadices, callsignWith, positionOf, locatorRadices, locatorWith, powerWith, sensorsOf, basicAt, firstForeign}
 
@@ -111,7 +111,15 @@ module _ (first third : ℕ) (is-first : isFirst first ≡ true) (is-third : bet
   unfolding firstForeign
   callsignWith-basic a = omega (arith, none-fails basicAt 0 _ (basic-characters a), callsignWith-length first third a)
 
--- ---- The number in a callsign
+-- ---- The channel and the number in a callsign
+
+-- A legal third character is a digit.
+third-of-legal : (byte : ℕ) → legalAt 2 byte ≡ true → between 48 57 byte ≡ true
+unfolding setAt callsignSets locatorSets
+third-of-legal byte e =
+    let small : value byte < 10 = legal-end 2 byte e in
+    let same : byte ≡ value byte + 48 = sym (character-value byte (omega arith)) ∙ character-digit small in
+    between-true 48 57 byte (omega arith) (omega arith)
 
 -- A legal character that is no space has a value below the space's.
 below-space : (byte : ℕ) → value byte < 37 → not (eqb byte 32) ≡ true → value byte < 36
@@ -157,6 +165,15 @@ module _ (callsign : List ℕ) (six : length callsign ≡ 6) where
     all-basic : AllPass basicAt 0 callsign
     unfolding firstForeign
     all-basic = all-pass basicAt 0 callsign (omega arith)
+
+    -- The channel's characters are in range.
+    pub first-of : isFirst (getD callsign 0 0) ≡ true
+    unfolding basicAt AllPass
+    first-of = subst (AllPass basicAt 0) its-characters all-basic .0
+
+    pub third-of : between 48 57 (getD callsign 2 0) ≡ true
+    unfolding AllPass
+    third-of = third-of-legal _ (subst (AllLegal 0) its-characters all-legal .1 .1 .0)
 
     pub position-digits-in : Digits callsignRadices (fourDigits (digitsFrom 0 callsign))
     position-digits-in =

@@ -6,3 +6,4 @@ pub mod NumberLaws
 pub mod CallsignLaws
 pub mod LocatorLaws
 pub mod AnswerLaws
+pub mod RoundTripLaws

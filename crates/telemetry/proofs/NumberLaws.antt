@@ -1,19 +1,21 @@
 -- Laws of the two numbers: what is measured gives digits below their radices, the readings in the numbers are the quantised ones, and
 -- the readings in any two numbers below their ends give those numbers again.
 use mathlib.Core.Path.{_≡_, refl, sym, ap, _∙_, subst}
-use Prim.Native.Nat.{ℕ, _+_, _-_, _<_}
-use native.Mathlib.Nat.{sub-add-cancel}
+use Prim.Native.Nat.{ℕ, _+_, _-_, _/_, _%_, _≤_, _<_}
+use native.Mathlib.Nat.{add-sub-cancel}
 use native.Mathlib.Omega.{arith}
 use mathlib.Core.List.{List, [], _∷_}
 use lib.ListN.{getD}
-use Rattle.radix.specs.Numeral.{Digits, Positive, count, numberOf, digitsOf}
+use mathlib.Core.Bool.{true}
+use Rattle.basics.specs.Test.{between}
+use Rattle.radix.specs.Numeral.{Digits, Positive, count, numberFrom, numberOf, digitsOf}
 use Rattle.radix.proofs.Laws.{number-below, digits-in-range, digitsOf-numberOf, numberOf-digitsOf}
-use Rattle.telemetry.specs.Codes.{altitudeCode, temperatureCode, voltageCode, speedCode}
+use Rattle.telemetry.specs.Ranges.{isFirst}
 use Rattle.telemetry.specs.Numbers.{positionRadices, positionDigits, positionNumber, sensorRadices, sensorDigits, sensorNumber, readingFrom, readingOf}
 use Rattle.telemetry.specs.RoundTrip.{quantised, inTenths}
 use Rattle.telemetry.specs.declared.Measured.{Measured}
 use Rattle.telemetry.proofs.RangeLaws.{InRange}
-use Rattle.telemetry.proofs.CodeLaws.{coded, altitude-below, voltage-below, speed-below}
+use Rattle.telemetry.proofs.CodeLaws.{coded, temperature-back, altitude-below, altitude-back, voltage-below, voltage-back, speed-below, speed-back}
 
 -- ---- The radices
 
@@ -56,3 +58,70 @@ module _ (m : Measured) (r : InRange m) where
   pub sensor-below : sensorNumber m < 604_800
   unfolding sensorNumber
   sensor-below = subst (λ (n : ℕ). sensorNumber m < n) sensor-count (number-below sensorRadices (sensorDigits m) sensor-digits)
+
+  -- The readings in the two numbers are the quantised ones.
+  letter-again : (g : ℕ) → 65 ≤ g → g - 65 + 65 ≡ g
+  letter-again g h = omega arith
+
+  pub readingOf-numbers : readingOf (m .first) (m .third) (positionNumber m) (sensorNumber m) ≡ quantised m
+  unfolding readingOf readingFrom positionNumber sensorNumber positionDigits sensorDigits quantised
+  readingOf-numbers =
+      rw (
+        digitsOf-numberOf positionRadices (positionDigits m) position-digits,
+        digitsOf-numberOf sensorRadices (sensorDigits m) sensor-digits,
+        letter-again (m .grid5) (r .grid5 .0),
+        letter-again (m .grid6) (r .grid6 .0),
+      )
+
+  -- B is odd.
+  pub sensor-odd : sensorNumber m % 2 ≡ 0 → ⊥
+  unfolding sensorNumber sensorRadices sensorDigits numberOf numberFrom
+  sensor-odd e = omega arith
+
+-- ---- The readings in two numbers
+
+module _ (first third a b : ℕ) (is-first : isFirst first ≡ true) (is-third : between 48 57 third ≡ true) where
+  -- What the readings in the two numbers write.
+  abbrev again : Measured
+  again = inTenths (readingOf first third a b)
+
+  pub again-in-range : InRange again
+  unfolding Digits digitsOf inTenths readingOf readingFrom positionRadices sensorRadices
+  again-in-range =
+      let p = digits-in-range positionRadices a position-positive in
+      let s = digits-in-range sensorRadices b sensor-positive in
+      let volts = voltage-back _ (s .1 .0) in
+      record {
+        first = is-first;
+        third = is-third;
+        grid5 = (omega arith, omega arith);
+        grid6 = (omega arith, omega arith);
+        altitude = altitude-back _ (p .1 .1 .0) .0;
+        temperature = temperature-back _ (s .0) .0;
+        voltage = (volts .0, volts .1 .0);
+        speed = speed-back _ (s .1 .1 .0) .0;
+        gps = omega arith;
+      }
+
+  again-position-digits : positionDigits again ≡ digitsOf positionRadices a
+  unfolding Digits digitsOf inTenths readingOf readingFrom positionRadices positionDigits
+  again-position-digits =
+      let p = digits-in-range positionRadices a position-positive in
+      rw (add-sub-cancel, add-sub-cancel, altitude-back _ (p .1 .1 .0) .1)
+
+  pub again-position : a < 615_168 → positionNumber again ≡ a
+  unfolding positionNumber
+  again-position h =
+      rw again-position-digits (numberOf-digitsOf positionRadices position-positive (subst (λ (n : ℕ). a < n) (sym position-count) h))
+
+  again-sensor-digits : (b % 2 ≡ 0 → ⊥) → sensorDigits again ≡ digitsOf sensorRadices b
+  unfolding Digits digitsOf count inTenths readingOf readingFrom sensorRadices sensorDigits
+  again-sensor-digits odd =
+      let s = digits-in-range sensorRadices b sensor-positive in
+      let last : b / 1 % 2 ≡ 1 = omega arith in
+      rw (temperature-back _ (s .0) .1, voltage-back _ (s .1 .0) .1 .1, speed-back _ (s .1 .1 .0) .1, last)
+
+  pub again-sensors : (b % 2 ≡ 0 → ⊥) → b < 604_800 → sensorNumber again ≡ b
+  unfolding sensorNumber
+  again-sensors odd h =
+      rw (again-sensor-digits odd) (numberOf-digitsOf sensorRadices sensor-positive (subst (λ (n : ℕ). b < n) (sym sensor-count) h))

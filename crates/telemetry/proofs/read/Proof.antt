@@ -1,3 +1,16 @@
+-- `telemetry::read` meets its contract: what isn't packed is refused as it was; of what is, each step is the definition's, and the rest
+-- follows from the definitions' laws.
+-- Assumes nothing.
+use mathlib.Core.Path.{_≡_, sym, _∙_}
+use native.Mathlib.Omega.{arith}
+use borrow.Author.Needs.{needs}
+use Rattle.basics.proofs.ListLaws.{none-fails}
+use Rattle.message.specs.Character.{legalAt}
+use Rattle.message.specs.Answer.{packed}
+use Rattle.message.specs.declared.Packed.{Packed}
+use Rattle.message.proofs.AnswerLaws.{Legal, legal-of-packed}
+use Rattle.telemetry.proofs.AnswerLaws.{decoded-refused, decoded-message, message-foreign, message-numbers, none-foreign}
+use Rattle.telemetry.proofs.RoundTripLaws.{read-promised}
 use borrow.Author.Needs.{needs}
 use Rattle.telemetry.proofs.read.Statement.{statement}
 use Rattle.telemetry.proofs.read.Tie as tie
@@ -7,56 +20,81 @@ use Rattle.telemetry.proofs.callsign.position_of.Reads as position-of-r
 use Rattle.telemetry.proofs.codes.read_numbers.Reads as read-numbers-reads
 use Rattle.telemetry.proofs.locator.sensors_of.Reads as sensors-of-reads
 
--- src/lib.rt:83:9
+-- Past the first test the message is packed.
+its-word : (c : tie.After-enum-told) → let a = c .before .before .before .before .before .args in
+    packed (a .callsign .now) (a .locator .now) (a .power) ≡ Packed.Word (c .enum-told .given .0 .0)
+its-word c = sym (c .before .before .pack .ensures .0) ∙ c .enum-told .given .1
+
+its-legal : (c : tie.After-enum-told) → let a = c .before .before .before .before .before .args in
+    Legal (a .callsign .now) (a .locator .now) (a .power)
+its-legal c =
+    let a = c .before .before .before .before .before .args in
+    legal-of-packed (a .callsign .now) (a .locator .now) (a .power) _ (its-word c) .0
+
 pack-requires : tie.Need-pack-requires
 pack-requires c κs = search needs
 
--- src/lib.rt:84:28
 enum-known-packed : tie.Need-enum-known-packed
 enum-known-packed c = search needs
 
--- src/lib.rt:85:9
 returns : tie.Need-returns
-returns c = ?
+returns c =
+    let p = c .before .before .before in
+    let a = p .before .before .before .args in
+    read-promised (a .callsign .now) (a .locator .now) (a .power) _
+    (decoded-refused (a .callsign .now) (a .locator .now) (a .power) _ (sym (p .pack .ensures .0) ∙ c .before .packed .given .1))
 
 enum-told : tie.Need-enum-told
 enum-told c = search needs
 
--- src/lib.rt:87:9
 first-foreign-requires : tie.Need-first-foreign-requires
 first-foreign-requires c κs = search needs
 
--- src/lib.rt:91:20
 cast-t10 : tie.Need-cast-t10
 cast-t10 c = search needs
 
--- src/lib.rt:89:9
 returns-2 : tie.Need-returns-2
-returns-2 c = ?
+returns-2 c =
+    let k = c .before .before in
+    let a = k .before .before .before .before .before .args in
+    read-promised (a .callsign .now) (a .locator .now) (a .power) _
+    (decoded-message (a .callsign .now) (a .locator .now) (a .power) _ (its-word k)
+    ∙ message-foreign (a .callsign .now) (a .locator .now) (a .power) _ (sym (c .before .first-foreign .ensures)) (c .if1 .taken))
 
--- src/lib.rt:94:9
 position-of-requires : tie.Need-position-of-requires
-position-of-requires c κs = ?
+position-of-requires c κs =
+    let l = its-legal (c .before .before) in
+    (l .six, (omega (arith, l .six, none-fails legalAt 0 _ (l .callsign-legal)), none-foreign _ (l .six) (omega (arith, c .before .first-foreign .ensures))))
 
--- src/lib.rt:95:9
 sensors-of-requires : tie.Need-sensors-of-requires
-sensors-of-requires c κs = ?
+sensors-of-requires c κs =
+    let l = its-legal (c .before .before .before) in
+    (l .four, (omega (arith, l .four, none-fails legalAt 6 _ (l .locator-legal)), l .power-legal))
 
--- src/lib.rt:96:25
 shared-slice-read-read-numbers : tie.Need-shared-slice-read-read-numbers
-shared-slice-read-read-numbers c = ?
+shared-slice-read-read-numbers c =
+    let l = its-legal (c .before .before .before .before .before) in
+    omega (arith, l .six)
 
--- src/lib.rt:96:38
 shared-slice-read-read-numbers-2 : tie.Need-shared-slice-read-read-numbers-2
-shared-slice-read-read-numbers-2 c = ?
+shared-slice-read-read-numbers-2 c =
+    let l = its-legal (c .before .before .before .before .before .before) in
+    omega (arith, l .six)
 
--- src/lib.rt:96:5
 read-numbers-requires : tie.Need-read-numbers-requires
 read-numbers-requires c κs = search needs
 
--- src/lib.rt:78:1
 returns-3 : tie.Need-returns-3
-returns-3 c = ?
+returns-3 c =
+    let s = c .before .before .before in
+    let p = s .before in
+    let e = p .before in
+    let k = e .before .before in
+    let a = k .before .before .before .before .before .args in
+    read-promised (a .callsign .now) (a .locator .now) (a .power) _
+    (decoded-message (a .callsign .now) (a .locator .now) (a .power) _ (its-word k)
+    ∙ message-numbers (a .callsign .now) (a .locator .now) (a .power) (omega (arith, e .before .first-foreign .ensures))
+    ∙ sym (c .read-numbers .ensures ∙ rw (p .position-of .ensures, s .sensors-of .ensures)))
 
 pub read-spec : {M : Type 1} → statement M
 read-spec =
