@@ -2,13 +2,11 @@
 use mathlib.Core.Path.{_≡_, refl, sym, ap, _∙_}
 use Prim.Native.Nat.{ℕ, _+_, _*_, _/_, _%_, _^_, _≤_, _<_}
 use native.Mathlib.Omega.{arith}
-use mathlib.Core.Bool.{Bool}
 use mathlib.Core.List.{List}
 use lib.Dec.{ltb}
-use lib.ListN.{length, getD, drop}
+use lib.ListN.{length, getD}
 use lib.Seq.{ext-getD}
 use borrow.Author.Tests.{ltb-true, leb-true, eqb-true, le-leb, eq-eqb}
-use Rattle.basics.specs.Lists.{firstFailing}
 use Rattle.basics.proofs.Tables.{every-at}
 use Rattle.basics.proofs.ListLaws.{length-tabulate, getD-tabulate, by-rule, passes-at, passes-each}
 use Rattle.convolution.specs.Code.{codedBits}

@@ -2,7 +2,7 @@
 use mathlib.Core.Path.{_≡_, refl, sym, _∙_}
 use Prim.Native.Nat.{ℕ, _%_, _≤_, _<_}
 use native.Mathlib.Omega.{arith}
-use mathlib.Core.Bool.{true, false, not}
+use mathlib.Core.Bool.{true, false}
 use mathlib.Core.List.{List}
 use lib.Dec.{eqb, leb, ltb}
 use lib.ListN.{length, getD}
@@ -111,8 +111,7 @@ unfolding numbersAnswer
 basic-numbers first third a b r e =
     let parity = cond-passed (eqb (b % 2) 0) e (refused-no-reading _ r) in
     let position = cond-passed (leb 615_168 a) (parity .1) (refused-no-reading _ r) in
-    let sensors = cond-passed (leb 604_800 b) (position .1) (refused-no-reading _ r) in
-    (
+    let sensors = cond-passed (leb 604_800 b) (position .1) (refused-no-reading _ r) in (
       record { odd = eqb-false _ _ (parity .0); position = leb-false _ _ (position .0); sensors = leb-false _ _ (sensors .0) },
       cc,
     )

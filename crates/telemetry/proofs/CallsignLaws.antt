@@ -1,24 +1,22 @@
 -- Laws of the callsign: the channel and the number A in it and back, both ways, and that what is written is legal and of basic telemetry.
 use mathlib.Core.Path.{_≡_, refl, sym, ap, _∙_, subst}
-use Prim.Native.Nat.{ℕ, zero, suc, _+_, _-_, _≤_, _<_}
+use Prim.Native.Nat.{ℕ, _+_, _-_, _≤_, _<_}
 use native.Mathlib.Omega.{arith}
-use mathlib.Core.Bool.{true, false, true≢false, _||_, not}
+use mathlib.Core.Bool.{true, true≢false, not}
 use mathlib.Core.List.{List, [], _∷_}
-use lib.Dec.{eqb, ltb}
+use lib.Dec.{eqb}
 use lib.ListN.{length, getD}
 use borrow.Author.Tests.{eqb-true, eq-eqb, ne-eqb}
 use Rattle.basics.specs.Test.{between}
 use Rattle.basics.specs.Lists.{tabulate}
 use Rattle.basics.proofs.Choice.{by-test, equal-or-not, between-true, between-range}
 use Rattle.basics.proofs.ListLaws.{AllPass, all-pass, none-fails, by-rule}
-use Rattle.radix.specs.Numeral.{Digits, Positive, count, numberOf, digitsOf}
-use Rattle.radix.proofs.Laws.{number-below, digits-in-range, digitsOf-numberOf, numberOf-digitsOf}
-use Rattle.power.specs.Powers.{powerIndex, powerAt, legalPower}
-use Rattle.power.proofs.Laws.{powerAt-powerIndex, powerIndex-powerAt, legal-index}
+use Rattle.radix.specs.Numeral.{Digits, Positive, count, digitsOf}
+use Rattle.radix.proofs.Laws.{digits-in-range, digitsOf-numberOf, numberOf-digitsOf}
 use Rattle.message.specs.Character.{value, character, firstBad, setAt, callsignSets, locatorSets, legalAt, digitAt, characterAt, overPlaces, digitsFrom, charactersFrom, DigitsAt}
-use Rattle.message.proofs.CharacterLaws.{AllLegal, value-digit, character-digit, character-letter, character-space, character-value, legal-from, legal-end, digits-of-legal, characters-of-digits, legal-of-digits, digits-of-characters, length-digitsFrom, length-charactersFrom}
+use Rattle.message.proofs.CharacterLaws.{AllLegal, value-digit, character-digit, character-letter, character-space, character-value, legal-from, legal-end, digits-of-legal, characters-of-digits, legal-of-digits, digits-of-characters, length-charactersFrom}
 use Rattle.telemetry.specs.Ranges.{isFirst}
-use Rattle.telemetry.specs.Characters.{callsignRadices, callsignWith, positionOf, locatorRadices, locatorWith, powerWith, sensorsOf, basicAt, firstForeign}
+use Rattle.telemetry.specs.Characters.{callsignRadices, callsignWith, positionOf, basicAt, firstForeign}
 
 -- ---- The radices
 
@@ -101,11 +99,16 @@ module _ (first third : ℕ) (is-first : isFirst first ≡ true) (is-third : bet
   basic-characters : (a : ℕ) → AllPass basicAt 0 (callsignWith first third a)
   unfolding AllPass Digits basicAt callsignWith charactersFrom overPlaces characterAt digitsOf setAt callsignSets locatorSets callsignRadices
   basic-characters a =
-      let p = digits-in-range callsignRadices a callsign-positive in
-      (subst (λ (b : ℕ). isFirst b ≡ true) (sym (callsignWith-first a)) is-first,
-      (refl,
-      (refl,
-      (no-space _ (omega arith) (omega arith), (no-space _ (omega arith) (omega arith), (no-space _ (omega arith) (omega arith), tt))))))
+      let p = digits-in-range callsignRadices a callsign-positive in (
+        subst (λ (b : ℕ). isFirst b ≡ true) (sym (callsignWith-first a)) is-first,
+        (
+          refl,
+          (
+            refl,
+            (no-space _ (omega arith) (omega arith), (no-space _ (omega arith) (omega arith), (no-space _ (omega arith) (omega arith), tt))),
+          ),
+        ),
+      )
 
   pub callsignWith-basic : (a : ℕ) → firstForeign (callsignWith first third a) ≡ 6
   unfolding firstForeign

@@ -1,5 +1,5 @@
 -- Laws of the locator and power: the number B in them and back, both ways, and that what is written is legal.
-use mathlib.Core.Path.{_≡_, refl, sym, ap, _∙_, subst}
+use mathlib.Core.Path.{_≡_, refl, sym, subst}
 use Prim.Native.Nat.{ℕ, _<_}
 use native.Mathlib.Omega.{arith}
 use mathlib.Core.Bool.{true}
@@ -9,7 +9,7 @@ use Rattle.basics.specs.Lists.{tabulate}
 use Rattle.basics.proofs.ListLaws.{all-pass, by-rule}
 use Rattle.radix.specs.Numeral.{Digits, Positive, count, digitsOf}
 use Rattle.radix.proofs.Laws.{digits-in-range, digitsOf-numberOf, numberOf-digitsOf}
-use Rattle.power.specs.Powers.{powerIndex, powerAt, legalPower}
+use Rattle.power.specs.Powers.{powerIndex, legalPower}
 use Rattle.power.proofs.Laws.{powerAt-powerIndex, powerIndex-powerAt, legal-index, legal-powerAt}
 use Rattle.message.specs.Character.{setAt, callsignSets, locatorSets, legalAt, firstBad, overPlaces, digitsFrom, DigitsAt}
 use Rattle.message.proofs.CharacterLaws.{AllLegal, digits-of-legal, characters-of-digits, legal-of-digits, digits-of-characters, length-charactersFrom}

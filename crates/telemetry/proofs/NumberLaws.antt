@@ -1,11 +1,9 @@
 -- Laws of the two numbers: what is measured gives digits below their radices, the readings in the numbers are the quantised ones, and
 -- the readings in any two numbers below their ends give those numbers again.
-use mathlib.Core.Path.{_≡_, refl, sym, ap, _∙_, subst}
+use mathlib.Core.Path.{_≡_, refl, sym, subst}
 use Prim.Native.Nat.{ℕ, _+_, _-_, _/_, _%_, _≤_, _<_}
 use native.Mathlib.Nat.{add-sub-cancel}
 use native.Mathlib.Omega.{arith}
-use mathlib.Core.List.{List, [], _∷_}
-use lib.ListN.{getD}
 use mathlib.Core.Bool.{true}
 use Rattle.basics.specs.Test.{between}
 use Rattle.radix.specs.Numeral.{Digits, Positive, count, numberFrom, numberOf, digitsOf}
@@ -47,9 +45,10 @@ module _ (m : Measured) (r : InRange m) where
 
   pub sensor-digits : Digits sensorRadices (sensorDigits m)
   unfolding Digits sensorRadices sensorDigits
-  sensor-digits =
-      (coded (m .temperature) (r .temperature) .below,
-      (voltage-below (m .voltage), (speed-below (m .speed) (r .speed), (omega (arith, r .gps), (omega arith, tt)))))
+  sensor-digits = (
+    coded (m .temperature) (r .temperature) .below,
+    (voltage-below (m .voltage), (speed-below (m .speed) (r .speed), (omega (arith, r .gps), (omega arith, tt)))),
+  )
 
   pub position-below : positionNumber m < 615_168
   unfolding positionNumber

@@ -1,6 +1,6 @@
 -- Laws of the ranges: what each range says, and that nothing is out of its range exactly where all are in it.
 use mathlib.Core.Path.{_≡_}
-use Prim.Native.Nat.{ℕ, _≤_}
+use Prim.Native.Nat.{_≤_}
 use native.Mathlib.Omega.{arith}
 use mathlib.Core.Bool.{true}
 use Rattle.basics.specs.Test.{between}
@@ -40,13 +40,28 @@ in-range m h =
 pub none-out-of-range : (m : Measured) → InRange m → firstOutOfRange m ≡ 9
 unfolding inRanges firstOutOfRange AllTrue
 none-out-of-range m r =
-    none-false 0 _
-    (r .first,
-    (r .third,
-    (between-true 65 88 (m .grid5) (r .grid5 .0) (r .grid5 .1),
-    (between-true 65 88 (m .grid6) (r .grid6 .0) (r .grid6 .1),
-    (between-true 0 21_359 (m .altitude) (omega arith) (r .altitude),
-    (r .temperature,
-    (between-true 3_000 4_999 (m .voltage) (r .voltage .0) (r .voltage .1),
-    (between-true 0 839 (m .speed) (omega arith) (r .speed),
-    (between-true 0 1 (m .gps) (omega arith) (r .gps), tt)))))))))
+    none-false 0 _ (
+      r .first,
+      (
+        r .third,
+        (
+          between-true 65 88 (m .grid5) (r .grid5 .0) (r .grid5 .1),
+          (
+            between-true 65 88 (m .grid6) (r .grid6 .0) (r .grid6 .1),
+            (
+              between-true 0 21_359 (m .altitude) (omega arith) (r .altitude),
+              (
+                r .temperature,
+                (
+                  between-true 3_000 4_999 (m .voltage) (r .voltage .0) (r .voltage .1),
+                  (
+                    between-true 0 839 (m .speed) (omega arith) (r .speed),
+                    (between-true 0 1 (m .gps) (omega arith) (r .gps), tt),
+                  ),
+                ),
+              ),
+            ),
+          ),
+        ),
+      ),
+    )

@@ -1,7 +1,7 @@
 -- The round trips between what is measured and its message, and that the reader refuses exactly the messages that the writer never makes.
-use mathlib.Core.Path.{_≡_, refl, sym, ap, _∙_, subst}
+use mathlib.Core.Path.{_≡_, refl, sym, ap, _∙_}
 use mathlib.Core.Logic.{_↔_}
-use Prim.Native.Nat.{ℕ, _≤_}
+use Prim.Native.Nat.{ℕ}
 use native.Mathlib.Omega.{arith}
 use mathlib.Core.Bool.{true}
 use mathlib.Core.List.{List}
@@ -13,10 +13,9 @@ use Rattle.message.specs.Word.{wordOf}
 use Rattle.message.specs.Answer.{rightLengths, packed, contentAfter}
 use Rattle.message.specs.declared.Packed.{Packed}
 use Rattle.message.specs.declared.Given.{Given}
-use Rattle.message.proofs.AnswerLaws.{Legal, right-lengths, legal-whole, packed-word}
-use Rattle.telemetry.specs.Ranges.{firstOutOfRange}
+use Rattle.message.proofs.AnswerLaws.{right-lengths, legal-whole, packed-word}
 use Rattle.telemetry.specs.Numbers.{positionNumber, sensorNumber, readingFrom, readingOf}
-use Rattle.telemetry.specs.Characters.{callsignWith, positionOf, locatorWith, powerWith, sensorsOf, firstForeign}
+use Rattle.telemetry.specs.Characters.{positionOf, powerWith, sensorsOf}
 use Rattle.telemetry.specs.Answer.{measuredAnswer, callsignOf, locatorOf, written, callsignAfter, locatorAfter, numbersAnswer, messageAnswer, decoded}
 use Rattle.telemetry.specs.RoundTrip.{quantised, inTenths, WritesAs, ReadsBack, WritesBack, IsRefused, NeverWritten, RefusesExactly}
 use Rattle.telemetry.specs.declared.Measured.{Measured}

@@ -37,16 +37,16 @@ sensorNumber m = numberOf sensorRadices (sensorDigits m)
 -- The readings in the two numbers' digits.
 unfoldable pub readingFrom : ℕ → ℕ → List ℕ → List ℕ → Reading
 readingFrom first third position sensors = record {
-    first = first;
-    third = third;
-    grid5 = getD position 0 0 + 65;
-    grid6 = getD position 1 0 + 65;
-    altitude = metres (getD position 2 0);
-    temperature = degrees (getD sensors 0 0);
-    voltage = millivolts (getD sensors 1 0);
-    speed = knots (getD sensors 2 0);
-    gps = getD sensors 3 0;
-  }
+  first = first;
+  third = third;
+  grid5 = getD position 0 0 + 65;
+  grid6 = getD position 1 0 + 65;
+  altitude = metres (getD position 2 0);
+  temperature = degrees (getD sensors 0 0);
+  voltage = millivolts (getD sensors 1 0);
+  speed = knots (getD sensors 2 0);
+  gps = getD sensors 3 0;
+}
 
 -- The readings in the two numbers, beside the channel's characters.
 unfoldable pub readingOf : ℕ → ℕ → ℕ → ℕ → Reading

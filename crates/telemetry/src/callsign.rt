@@ -23,7 +23,14 @@ pub(crate) fn write_callsign(first: u8, third: u8, position: u64, callsign: &mut
 {
     let mut p = [0u64; 4];
     radix::unpack(position, &CALLSIGN_RADICES, &mut p);
-    let digits = [digit_at(0, first), p[0], digit_at(2, third), p[1], p[2], p[3]];
+    let digits = [
+        digit_at(0, first),
+        p[0],
+        digit_at(2, third),
+        p[1],
+        p[2],
+        p[3],
+    ];
     write_characters(0, &digits, callsign);
 }
 
@@ -61,5 +68,8 @@ pub(crate) fn position_of(callsign: &[u8]) -> u64
 {
     let mut digits = [0u64; 6];
     read_digits(0, callsign, &mut digits);
-    radix::pack(&CALLSIGN_RADICES, &[digits[1], digits[3], digits[4], digits[5]])
+    radix::pack(
+        &CALLSIGN_RADICES,
+        &[digits[1], digits[3], digits[4], digits[5]],
+    )
 }

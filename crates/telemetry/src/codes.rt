@@ -45,7 +45,11 @@ pub(crate) fn position_number(m: Measured) -> u64
     requires { ⌜ firstOutOfRange m ≡ 9 ⌝ }
     ensures { λ r. ⌜ r ≡ positionNumber m ⌝ }
 {
-    let digits = [(m.grid5 - b'A') as u64, (m.grid6 - b'A') as u64, (m.altitude / 20) as u64];
+    let digits = [
+        (m.grid5 - b'A') as u64,
+        (m.grid6 - b'A') as u64,
+        (m.altitude / 20) as u64,
+    ];
     radix::pack(&POSITION_RADICES, &digits)
 }
 

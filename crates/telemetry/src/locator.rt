@@ -33,5 +33,8 @@ pub(crate) fn sensors_of(locator: &[u8], power: u32) -> u64
     let mut values = [0u64; 4];
     read_digits(6, locator, &mut values);
     let index = power::index_of(power) as u64;
-    radix::pack(&LOCATOR_RADICES, &[values[0], values[1], values[2], values[3], index])
+    radix::pack(
+        &LOCATOR_RADICES,
+        &[values[0], values[1], values[2], values[3], index],
+    )
 }

@@ -2,8 +2,8 @@
 use frame::Read;
 use frame::Written;
 use libc::STDOUT_FILENO;
-use message::Packed;
 use message::Given;
+use message::Packed;
 use refusal::Refusal;
 
 pub(crate) fn print(text: &[u8]) {

@@ -6,8 +6,8 @@ ghost use Rattle.frame.specs.Answer.{wordWritten, messageWritten, frameAfterWor
 ghost use Rattle.wsprcard.specs.Results.{writtenResult, wordResult, messageResult, PackedReadsBack, MessagePacksBack, UnpackRefusedExactly, FrameReadsAsWord, FrameReadsAsMessage, WordWritesFrame, FrameRefusedExactly, NoWordExactly, MessageWritesFrame, MessageFrameRefusedExactly};
 use frame::Read;
 use frame::Written;
-use message::Packed;
 use message::Given;
+use message::Packed;
 use refusal::Refusal;
 
 // Refusal number (0: success) and place.

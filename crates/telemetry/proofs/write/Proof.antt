@@ -1,7 +1,7 @@
 -- `telemetry::write` meets its contract: a refusal leaves both buffers alone; else the message's callsign and locator are written, and
 -- the rest follows from the definitions' laws.
 -- Assumes nothing.
-use mathlib.Core.Path.{_≡_, sym, ap, _∙_}
+use mathlib.Core.Path.{_≡_, sym, _∙_}
 use native.Mathlib.Omega.{arith}
 use mathlib.Core.Bool.{true}
 use lib.ListN.{length}
@@ -9,8 +9,7 @@ use borrow.Author.Needs.{needs}
 use borrow.Author.Tests.{not-true, not-false}
 use Rattle.message.specs.Answer.{rightLengths}
 use Rattle.message.proofs.AnswerLaws.{lengths-of-right}
-use Rattle.telemetry.specs.Characters.{powerWith}
-use Rattle.telemetry.specs.Answer.{measuredAnswer, callsignOf, locatorOf}
+use Rattle.telemetry.specs.Answer.{callsignOf, locatorOf}
 use Rattle.telemetry.proofs.RangeLaws.{InRange, in-range, none-out-of-range}
 use Rattle.telemetry.proofs.AnswerLaws.{measured-range, measured-power, written-length, written-measured}
 use Rattle.telemetry.proofs.RoundTripLaws.{write-refused, write-done}

@@ -44,11 +44,10 @@ loop-less c = omega arith
 loop-again : tie.Need-loop-again Inv-loop μ-loop
 loop-again c =
     let l = c .before .before .before .before in
-    let i = l .loop .i in
-    (
+    let i = l .loop .i in (
       omega arith,
       search-passed basicAt (l .before .before .args .callsign .now) i i (omega arith) (sym (c .before .is-basic-at .ensures) ∙ not-false _ (c .if1 .left))
-      ∙ l .loop .inv .1,
+          ∙ l .loop .inv .1,
     )
 
 returns-2 : tie.Need-returns-2 Inv-loop μ-loop

@@ -1,7 +1,6 @@
 -- `telemetry::callsign::is_basic_at` meets its contract: its tests are the definition's.
 -- Assumes nothing.
 use mathlib.Core.Path.{_∙_}
-use native.Mathlib.Omega.{arith}
 use borrow.Author.Needs.{needs}
 use borrow.Author.Tests.{eq-eqb, ne-eqb, lt-ltb, le-ltb}
 use Rattle.telemetry.specs.Characters.{basicAt}

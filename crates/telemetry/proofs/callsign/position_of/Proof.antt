@@ -1,7 +1,7 @@
 -- `telemetry::callsign::position_of` meets its contract: the digits of places 1, 3, 4, 5 are below their radices, and `radix::pack` makes their
 -- number.
 -- Assumes nothing.
-use mathlib.Core.Path.{_≡_, ap, _∙_}
+use mathlib.Core.Path.{ap, _∙_}
 use Prim.Native.Nat.{ℕ}
 use native.Mathlib.Omega.{arith}
 use mathlib.Core.List.{List}

@@ -1,6 +1,5 @@
 -- `telemetry::codes::position_number` meets its contract: in range the digits are below their radices, and `radix::pack` makes their number.
 -- Assumes nothing.
-use mathlib.Core.Path.{_≡_}
 use native.Mathlib.Omega.{arith}
 use borrow.Author.Needs.{needs}
 use Rattle.telemetry.specs.Codes.{altitudeCode}

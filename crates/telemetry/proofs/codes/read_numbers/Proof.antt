@@ -1,6 +1,6 @@
 -- `telemetry::codes::read_numbers` meets its contract: each test is the definition's, in its order.
 -- Assumes nothing.
-use mathlib.Core.Path.{_≡_, sym, ap, _∙_}
+use mathlib.Core.Path.{sym, ap, _∙_}
 use borrow.Author.Needs.{needs}
 use Rattle.telemetry.specs.declared.Decoded.{Decoded}
 use Rattle.telemetry.proofs.AnswerLaws.{numbers-extended, numbers-position, numbers-sensors, numbers-reading}

@@ -1,13 +1,10 @@
 -- `telemetry::codes::sensor_number` meets its contract: in range the digits are below their radices, and `radix::pack` makes their number.
 -- Assumes nothing.
-use mathlib.Core.Path.{sym, ap, _∙_}
-use mathlib.Core.List.{List, _∷_, []}
-use Prim.Native.Nat.{ℕ}
+use mathlib.Core.Path.{ap, _∙_}
 use mir.Facts.{toZ-ofZ}
 use mir.Syntax.{w32}
 use mir.Val.{toZ, ofZ}
-use Rattle.radix.specs.Numeral.{Digits, numberOf}
-use Rattle.telemetry.specs.Codes.{temperatureCode, voltageCode}
+use Rattle.telemetry.specs.Codes.{temperatureCode}
 use Rattle.telemetry.proofs.RangeLaws.{InRange}
 use mathlib.Core.Path.{_≡_}
 use native.Mathlib.Omega.{arith}

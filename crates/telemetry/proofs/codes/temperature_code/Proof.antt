@@ -1,9 +1,9 @@
 -- `telemetry::codes::temperature_code` meets its contract: the machine's signed quotient and sum are the definition's, and nothing
 -- leaves the width.
 -- Assumes nothing.
-use mathlib.Core.Path.{_≡_, sym, ap, _∙_}
+use mathlib.Core.Path.{_≡_}
 use native.Mathlib.Omega.{arith}
-use lib.IntN.{ℤ, pos, natAbs, _+ℤ_}
+use lib.IntN.{ℤ, pos, _+ℤ_}
 use lib.Signed.{quotZ}
 use mir.Facts.{toZ-ofZ}
 use mir.Syntax.{w32}

@@ -1,14 +1,11 @@
 -- `telemetry::locator::sensors_of` meets its contract: the digits of the four places and the power's index are below their radices, and
 -- `radix::pack` makes their number.
 -- Assumes nothing.
-use mathlib.Core.Path.{_≡_, ap, _∙_}
-use Prim.Native.Nat.{ℕ}
+use mathlib.Core.Path.{_∙_}
 use native.Mathlib.Omega.{arith}
-use mathlib.Core.List.{List}
 use borrow.Author.Needs.{needs}
-use Rattle.radix.specs.Numeral.{numberOf}
 use Rattle.telemetry.specs.Characters.{locatorRadices, sensorsOf}
-use Rattle.telemetry.proofs.LocatorLaws.{fiveDigits, locator-count, sensor-digits-in}
+use Rattle.telemetry.proofs.LocatorLaws.{locator-count, sensor-digits-in}
 use borrow.Author.Needs.{needs}
 use Rattle.telemetry.proofs.locator.sensors_of.Statement.{statement}
 use Rattle.telemetry.proofs.locator.sensors_of.Tie as tie

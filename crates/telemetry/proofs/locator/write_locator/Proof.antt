@@ -72,8 +72,7 @@ returns : tie.Need-returns
 unfolding locatorWith powerWith
 returns c =
     let w = c .before .before .before in
-    let u = w .before .before .before .before in
-    (
+    let u = w .before .before .before .before in (
       c .power-at .ensures ∙ ap (λ (s : List ℕ). powerAt (getD s 4 0)) (its-digits u),
       w .write-characters .ensures ∙ ap (λ (s : List ℕ). charactersFrom 6 (fourDigits s)) (its-digits u),
     )
