@@ -1,5 +1,5 @@
 /*
- * wsprcard: WSPR type 1 messages, their 50-bit words, and frames of 162 symbols.
+ * wsprcard: WSPR type 1 messages, their 50-bit words, frames of 162 symbols, and U4B basic telemetry.
  *
  * Every call takes any bytes and any numbers, always ends, and either does its job or refuses by the
  * table below. On success `refusal` and `place` are 0. On a refusal every other number of the result
@@ -23,12 +23,26 @@
  *   7  a symbol is above 3                                       the first such, 0 to 161
  *   8  a sync bit (a symbol modulo 2) is wrong                   the first such, 0 to 161
  *   9  no 50-bit word has this frame                             0
+ *   10 the first character isn't 0, 1 or Q, or a space stands in 0, else the first space's, 3 to 5
+ *      places 3 to 5
+ *   11 B is even: extended telemetry, not basic                  0
+ *   12 A is 615,168 or more                                      0
+ *   13 B is 604,800 or more                                      0
+ *   14 a telemetry input is out of range                         the first such: 0 first, 1 third,
+ *                                                                2 grid5, 3 grid6, 4 altitude,
+ *                                                                5 temperature, 6 voltage, 7 speed,
+ *                                                                8 gps
  *
  * Callsign places 0 to 5: 0 is 0-9, A-Z or space; 1 is 0-9 or A-Z; 2 is 0-9; 3 to 5 are A-Z or
  * space. Locator places 6 to 9: 6 and 7 are A-R, 8 and 9 are 0-9. Capitals only. The powers are
  * 0 3 7 10 13 17 20 23 27 30 33 37 40 43 47 50 53 57 60 dBm.
  *
  * A frame is one byte a symbol, each 0 to 3, in the order in which they are sent.
+ *
+ * Telemetry comes as a message. The callsign's places 0 and 2, its first and third character, name
+ * the channel. A is the number in places 1, 3, 4 and 5, with radices 36, 26, 26, 26 and A = 0 at the
+ * last three: sub-square and altitude. B is the number in places 6 to 9 and the power's index, with
+ * radices 18, 18, 10, 10, 19: temperature, voltage, speed and GPS.
  */
 #ifndef WSPRCARD_H
 #define WSPRCARD_H
@@ -52,6 +66,15 @@ typedef struct {
 typedef struct {
     uint32_t refusal, place, power;
 } wspr_message;
+
+/* What telemetry says, in the units in which it is read: metres, degrees, millivolts, knots. */
+typedef struct {
+    uint32_t refusal, place;
+    uint8_t first, third, grid5, grid6;
+    uint32_t altitude;
+    int32_t temperature;
+    uint32_t voltage, speed, gps;
+} u4b_reading;
 
 /* The word of a message. Refusals 1, 2, 3, in that order. */
 wspr_word wspr_pack(const uint8_t *callsign, size_t callsign_len, const uint8_t *locator, size_t locator_len,
@@ -77,6 +100,30 @@ wspr_word wspr_read_word(const uint8_t *frame, size_t frame_len);
  * their lengths it refuses exactly the frames that wspr_write_message never makes. */
 wspr_message wspr_read_message(const uint8_t *frame, size_t frame_len, uint8_t *callsign, size_t callsign_len,
                                uint8_t *locator, size_t locator_len);
+
+/* The message of a telemetry report: writes its callsign and locator, returns its power. Steps are rounded down, but
+ * tenths of a degree are dropped toward zero.
+ *
+ *   first        the channel's first character, '0', '1' or 'Q'
+ *   third        the channel's third character, '0' to '9'
+ *   grid5 grid6  the sub-square's letters, 'A' to 'X' each
+ *   altitude     0 to 21,359 metres, in steps of 20
+ *   temperature  -500 to 399 tenths of a degree, of which whole degrees are kept
+ *   voltage      3,000 to 4,999 millivolts, in steps of 50
+ *   speed        0 to 839 tenths of a knot, in steps of 20
+ *   gps          0 or 1
+ *
+ * Refusals 1, 14, in that order: nothing is clamped. */
+wspr_message u4b_write(uint8_t first, uint8_t third, uint8_t grid5, uint8_t grid6, uint32_t altitude,
+                       int32_t temperature, uint32_t voltage, uint32_t speed, uint32_t gps, uint8_t *callsign,
+                       size_t callsign_len, uint8_t *locator, size_t locator_len);
+
+/* The telemetry of a message: first, third, grid5 and grid6 as u4b_write takes them; altitude 0 to 21,340 metres,
+ * temperature -50 to 39 degrees, voltage 3,000 to 4,950 millivolts, speed 0 to 82 knots, gps 0 or 1. Refusals 1, 2, 3,
+ * 10, 11, 12, 13, in that order: exactly for the messages that u4b_write never makes. Of what is read, u4b_write makes
+ * the same message again, with temperature and speed times 10. */
+u4b_reading u4b_read(const uint8_t *callsign, size_t callsign_len, const uint8_t *locator, size_t locator_len,
+                     uint32_t power);
 
 #ifdef __cplusplus
 }
