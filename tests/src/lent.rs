@@ -80,6 +80,22 @@ impl Lent {
         self.bytes[..GUARD] == self.before[..GUARD] && self.bytes[after..] == self.before[after..]
     }
 
+    /// Holds the buffer to what was to be written in it; `None` is nothing at all.
+    pub fn assert_holds<const LEN: usize>(
+        &self,
+        expected: Option<&[u8; LEN]>,
+        input: impl Fn() -> String,
+    ) {
+        match expected {
+            Some(bytes) => {
+                let (content, wanted) = (self.content().escape_ascii(), bytes.escape_ascii());
+                assert!(self.content() == bytes, "{} left {content}, not {wanted}", input());
+                assert!(self.keeps_guards(), "{} wrote beside a buffer", input());
+            }
+            None => assert!(self.is_unchanged(), "{} wrote at a buffer", input()),
+        }
+    }
+
     /// How the buffer was lent, for the messages of the tests.
     pub fn shown(&self) -> String {
         if self.null {

@@ -1,8 +1,9 @@
 // What the outside tests share: the library under test, an independent implementation to
 // compare it with, lent buffers that show every write, random inputs from a seeded generator,
-// and the vectors of WSJT-X.
+// counts of the answers, and the vectors of WSJT-X.
 pub mod answers;
 pub mod card;
+pub mod counts;
 pub mod inputs;
 pub mod lent;
 pub mod reference;

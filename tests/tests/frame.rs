@@ -1,11 +1,10 @@
 // Writing frames and strictly reading them: the library against the independent
 // implementation, on clean, damaged and arbitrary inputs.
-use std::collections::BTreeMap;
-
 use wsprcard_tests::answers::{
     message_answer, refused_message, refused_word, word_answer, written_answer,
 };
 use wsprcard_tests::card;
+use wsprcard_tests::counts::Counts;
 use wsprcard_tests::inputs::{
     bad_character, bad_power, bad_word, legal_bytes, random_characters, random_legal_word,
     random_message, spoil,
@@ -22,16 +21,15 @@ type Frame = [u8; FRAME_LEN];
 
 const WRITTEN: card::Written = card::Written { refusal: 0, place: 0 };
 
-/// Compares the library with the reference, call by call, and counts the answers by the
-/// call's name and its refusal number.
+/// Compares the library with the reference, call by call, and counts the answers.
 struct Check {
     rng: Rng,
-    answers: BTreeMap<(&'static str, u32), u64>,
+    counts: Counts,
 }
 
 impl Check {
     fn new(seed: u64) -> Check {
-        Check { rng: Rng::new(seed), answers: BTreeMap::new() }
+        Check { rng: Rng::new(seed), counts: Counts::new() }
     }
 
     fn write_word(&mut self, word: u64) -> card::Written {
@@ -48,8 +46,8 @@ impl Check {
         let answer = reference::write_word(word, frame.len());
         let input = || format!("write_word {word:#x} into {}", frame.shown());
         assert_eq!(found, written_answer(answer), "{}", input());
-        assert_written(&frame, answer.ok().as_ref(), input);
-        self.count("write_word", found.refusal);
+        frame.assert_holds(answer.ok().as_ref(), input);
+        self.counts.count("write_word", found.refusal);
         found
     }
 
@@ -91,8 +89,8 @@ impl Check {
         assert_eq!(found, written_answer(answer), "{}", input());
         assert!(callsign.is_unchanged(), "{} wrote at the callsign", input());
         assert!(locator.is_unchanged(), "{} wrote at the locator", input());
-        assert_written(&frame, answer.ok().as_ref(), input);
-        self.count("write_message", found.refusal);
+        frame.assert_holds(answer.ok().as_ref(), input);
+        self.counts.count("write_message", found.refusal);
         found
     }
 
@@ -106,7 +104,7 @@ impl Check {
         let answer = reference::read_word(frame.lent());
         assert_eq!(found, word_answer(answer), "read_word {}", frame.shown());
         assert!(frame.is_unchanged(), "read_word {} wrote at the frame", frame.shown());
-        self.count("read_word", found.refusal);
+        self.counts.count("read_word", found.refusal);
         found
     }
 
@@ -141,44 +139,14 @@ impl Check {
         assert_eq!(found, message_answer(answer), "{}", input());
         assert!(frame.is_unchanged(), "{} wrote at the frame", input());
         let message = answer.ok();
-        assert_written(&callsign, message.as_ref().map(|message| &message.callsign), input);
-        assert_written(&locator, message.as_ref().map(|message| &message.locator), input);
-        self.count("read_message", found.refusal);
+        callsign.assert_holds(message.as_ref().map(|message| &message.callsign), input);
+        locator.assert_holds(message.as_ref().map(|message| &message.locator), input);
+        self.counts.count("read_message", found.refusal);
         found
     }
 
-    fn count(&mut self, call: &'static str, refusal: u32) {
-        *self.answers.entry((call, refusal)).or_insert(0) += 1;
-    }
-
-    /// Holds the test to the answers it is meant to get: these calls with these refusal
-    /// numbers, 0 for none, at least so often each, and no others.
     fn finish(self, at_least: &[(&'static str, u32, u64)]) {
-        println!("{:?}", self.answers);
-        let meant: Vec<_> = at_least.iter().map(|&(call, refusal, _)| (call, refusal)).collect();
-        for answer in self.answers.keys() {
-            assert!(meant.contains(answer), "{answer:?} was not to be seen");
-        }
-        for &(call, refusal, count) in at_least {
-            let seen = self.answers.get(&(call, refusal)).copied().unwrap_or(0);
-            assert!(seen >= count, "{call} with refusal {refusal} was seen {seen} times only");
-        }
-    }
-}
-
-/// Holds a buffer to what was to be written in it; `None` is nothing at all.
-fn assert_written<const LEN: usize>(
-    buffer: &Lent,
-    expected: Option<&[u8; LEN]>,
-    input: impl Fn() -> String,
-) {
-    match expected {
-        Some(bytes) => {
-            let (content, wanted) = (buffer.content().escape_ascii(), bytes.escape_ascii());
-            assert!(buffer.content() == bytes, "{} left {content}, not {wanted}", input());
-            assert!(buffer.keeps_guards(), "{} wrote beside a buffer", input());
-        }
-        None => assert!(buffer.is_unchanged(), "{} wrote at a buffer", input()),
+        self.counts.finish(at_least);
     }
 }
 
