@@ -1,6 +1,7 @@
 // What the C interface is to return for the answers of the independent implementation.
 use crate::card;
 use crate::reference::message::Message;
+use crate::reference::telemetry::Telemetry;
 use crate::reference::Refusal;
 
 pub fn word_answer(answer: Result<u64, Refusal>) -> card::Word {
@@ -14,6 +15,25 @@ pub fn message_answer(answer: Result<Message, Refusal>) -> card::Message {
     match answer {
         Ok(message) => card::Message { refusal: 0, place: 0, power: message.power },
         Err(refusal) => refused_message(refusal.number, refusal.place),
+    }
+}
+
+pub fn reading_answer(answer: Result<Telemetry, Refusal>) -> card::Reading {
+    match answer {
+        Ok(telemetry) => card::Reading {
+            refusal: 0,
+            place: 0,
+            first: telemetry.first,
+            third: telemetry.third,
+            grid5: telemetry.grid5,
+            grid6: telemetry.grid6,
+            altitude: telemetry.altitude,
+            temperature: telemetry.temperature,
+            voltage: telemetry.voltage,
+            speed: telemetry.speed,
+            gps: telemetry.gps,
+        },
+        Err(refusal) => refused_reading(refusal.number, refusal.place),
     }
 }
 
@@ -31,4 +51,20 @@ pub fn refused_word(refusal: u32, place: u32) -> card::Word {
 
 pub fn refused_message(refusal: u32, place: u32) -> card::Message {
     card::Message { refusal, place, power: 0 }
+}
+
+pub fn refused_reading(refusal: u32, place: u32) -> card::Reading {
+    card::Reading {
+        refusal,
+        place,
+        first: 0,
+        third: 0,
+        grid5: 0,
+        grid6: 0,
+        altitude: 0,
+        temperature: 0,
+        voltage: 0,
+        speed: 0,
+        gps: 0,
+    }
 }

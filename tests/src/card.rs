@@ -1,5 +1,6 @@
 // The C interface of the library under test, declared by hand, with safe functions over it.
 use crate::lent::Lent;
+use crate::reference::telemetry::Telemetry;
 
 #[repr(C)]
 #[derive(Clone, Copy, Debug, PartialEq, Eq)]
@@ -22,6 +23,22 @@ pub struct Message {
 pub struct Written {
     pub refusal: u32,
     pub place: u32,
+}
+
+#[repr(C)]
+#[derive(Clone, Copy, Debug, PartialEq, Eq)]
+pub struct Reading {
+    pub refusal: u32,
+    pub place: u32,
+    pub first: u8,
+    pub third: u8,
+    pub grid5: u8,
+    pub grid6: u8,
+    pub altitude: u32,
+    pub temperature: i32,
+    pub voltage: u32,
+    pub speed: u32,
+    pub gps: u32,
 }
 
 extern "C" {
@@ -63,6 +80,30 @@ extern "C" {
         locator: *mut u8,
         locator_len: usize,
     ) -> Message;
+
+    fn u4b_write(
+        first: u8,
+        third: u8,
+        grid5: u8,
+        grid6: u8,
+        altitude: u32,
+        temperature: i32,
+        voltage: u32,
+        speed: u32,
+        gps: u32,
+        callsign: *mut u8,
+        callsign_len: usize,
+        locator: *mut u8,
+        locator_len: usize,
+    ) -> Message;
+
+    fn u4b_read(
+        callsign: *const u8,
+        callsign_len: usize,
+        locator: *const u8,
+        locator_len: usize,
+        power: u32,
+    ) -> Reading;
 }
 
 pub fn pack(callsign: &[u8], locator: &[u8], power: u32) -> Word {
@@ -114,6 +155,43 @@ pub fn read_message(frame: &[u8], callsign: &mut [u8], locator: &mut [u8]) -> Me
             locator.len(),
         )
     }
+}
+
+pub fn write_telemetry(telemetry: &Telemetry, callsign: &mut [u8], locator: &mut [u8]) -> Message {
+    unsafe {
+        write_telemetry_at(
+            telemetry,
+            (callsign.as_mut_ptr(), callsign.len()),
+            (locator.as_mut_ptr(), locator.len()),
+        )
+    }
+}
+
+/// The callsign and the locator are a pointer and a length each.
+unsafe fn write_telemetry_at(
+    telemetry: &Telemetry,
+    callsign: (*mut u8, usize),
+    locator: (*mut u8, usize),
+) -> Message {
+    u4b_write(
+        telemetry.first,
+        telemetry.third,
+        telemetry.grid5,
+        telemetry.grid6,
+        telemetry.altitude,
+        telemetry.temperature,
+        telemetry.voltage,
+        telemetry.speed,
+        telemetry.gps,
+        callsign.0,
+        callsign.1,
+        locator.0,
+        locator.1,
+    )
+}
+
+pub fn read_telemetry(callsign: &[u8], locator: &[u8], power: u32) -> Reading {
+    unsafe { u4b_read(callsign.as_ptr(), callsign.len(), locator.as_ptr(), locator.len(), power) }
 }
 
 /// `pack` from buffers that show whether anything was written.
@@ -172,4 +250,24 @@ pub fn read_message_lent(frame: &mut Lent, callsign: &mut Lent, locator: &mut Le
             locator.len(),
         )
     }
+}
+
+/// `write_telemetry` into buffers that show what was written.
+pub fn write_telemetry_lent(
+    telemetry: &Telemetry,
+    callsign: &mut Lent,
+    locator: &mut Lent,
+) -> Message {
+    unsafe {
+        write_telemetry_at(
+            telemetry,
+            (callsign.pointer(), callsign.len()),
+            (locator.pointer(), locator.len()),
+        )
+    }
+}
+
+/// `read_telemetry` from buffers that show whether anything was written.
+pub fn read_telemetry_lent(callsign: &mut Lent, locator: &mut Lent, power: u32) -> Reading {
+    unsafe { u4b_read(callsign.pointer(), callsign.len(), locator.pointer(), locator.len(), power) }
 }

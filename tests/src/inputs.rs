@@ -1,5 +1,6 @@
-// Random messages and words: legal ones, and such as are refused.
+// Random messages, words and telemetry: legal ones, and such as are refused.
 use crate::reference::message::{word_of, Message, CALLSIGNS, CHARACTERS, LOCATORS, POWERS};
+use crate::reference::telemetry::Telemetry;
 use crate::rng::Rng;
 
 pub fn random_message(rng: &mut Rng) -> Message {
@@ -74,6 +75,43 @@ pub fn bad_low(rng: &mut Rng) -> u64 {
         let low = rng.below(128);
         if low < 64 || !POWERS.contains(&(low as u32 - 64)) {
             return low;
+        }
+    }
+}
+
+/// Inputs in their ranges, in the units in which they are written.
+pub fn random_telemetry(rng: &mut Rng) -> Telemetry {
+    Telemetry {
+        first: rng.pick(b"01Q"),
+        third: rng.between(b'0'.into(), b'9'.into()) as u8,
+        grid5: rng.between(b'A'.into(), b'X'.into()) as u8,
+        grid6: rng.between(b'A'.into(), b'X'.into()) as u8,
+        altitude: rng.below(21_360) as u32,
+        temperature: rng.below(900) as i32 - 500,
+        voltage: rng.between(3_000, 4_999) as u32,
+        speed: rng.below(840) as u32,
+        gps: rng.below(2) as u32,
+    }
+}
+
+/// Puts an input that is refused at this place: 0 is the first character, 8 is GPS. Numbers
+/// are near the ranges or anywhere.
+pub fn spoil_telemetry(rng: &mut Rng, telemetry: &mut Telemetry, place: usize) {
+    while telemetry.in_range()[place] {
+        let count = rng.pick(&[4, 1_000, 6_000, 25_000, 1 << 32]);
+        let number = rng.below(count) as u32;
+        match place {
+            0 => telemetry.first = rng.byte(),
+            1 => telemetry.third = rng.byte(),
+            2 => telemetry.grid5 = rng.byte(),
+            3 => telemetry.grid6 = rng.byte(),
+            4 => telemetry.altitude = number,
+            5 if rng.coin() => telemetry.temperature = number as i32,
+            5 => telemetry.temperature = (number as i32).wrapping_neg(),
+            6 => telemetry.voltage = number,
+            7 => telemetry.speed = number,
+            8 => telemetry.gps = number,
+            _ => panic!("no input has the place {place}"),
         }
     }
 }

@@ -35,6 +35,12 @@ pub struct Message {
 }
 
 pub fn pack(callsign: &[u8], locator: &[u8], power: u32) -> Result<u64, Refusal> {
+    check(callsign, locator, power)?;
+    Ok(word_of(callsign_number(callsign), locator_number(locator), u64::from(power) + 64))
+}
+
+/// Refuses what isn't a message.
+pub fn check(callsign: &[u8], locator: &[u8], power: u32) -> Result<(), Refusal> {
     check_lengths(callsign.len(), locator.len())?;
     for (place, character) in callsign.iter().chain(locator).enumerate() {
         if !CHARACTERS[place].contains(character) {
@@ -44,7 +50,7 @@ pub fn pack(callsign: &[u8], locator: &[u8], power: u32) -> Result<u64, Refusal>
     if !POWERS.contains(&power) {
         return Err(Refusal { number: 3, place: 0 });
     }
-    Ok(word_of(callsign_number(callsign), locator_number(locator), u64::from(power) + 64))
+    Ok(())
 }
 
 pub fn unpack(word: u64, callsign_len: usize, locator_len: usize) -> Result<Message, Refusal> {
@@ -64,7 +70,7 @@ pub fn unpack(word: u64, callsign_len: usize, locator_len: usize) -> Result<Mess
     }
 }
 
-fn check_lengths(callsign_len: usize, locator_len: usize) -> Result<(), Refusal> {
+pub fn check_lengths(callsign_len: usize, locator_len: usize) -> Result<(), Refusal> {
     if callsign_len == CALLSIGN_LEN && locator_len == LOCATOR_LEN {
         Ok(())
     } else {

@@ -1,6 +1,7 @@
 // An independent implementation of the card, written from the papers alone, one file a layer.
 pub mod frame;
 pub mod message;
+pub mod telemetry;
 
 /// Why an input is refused: the number of the refusal table and the place it names.
 #[derive(Clone, Copy, Debug, PartialEq, Eq)]
