@@ -495,10 +495,9 @@ fn arbitrary_inputs_are_written_or_refused() {
     let mut check = Check::new(15);
     for _ in 0..200_000 {
         let mut telemetry = random_telemetry(&mut check.rng);
-        let anywhere = check.rng.below(512);
         let number = check.rng.number() as u32 >> check.rng.below(32);
         let byte = check.rng.byte();
-        match anywhere % 9 {
+        match check.rng.below(9) {
             0 => telemetry.first = byte,
             1 => telemetry.third = byte,
             2 => telemetry.grid5 = byte,

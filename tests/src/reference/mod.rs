@@ -1,5 +1,6 @@
 // An independent implementation of the card, written from the papers alone, one file a layer.
 pub mod frame;
+pub mod lines;
 pub mod message;
 pub mod telemetry;
 

@@ -1,0 +1,481 @@
+// The program telemetry_lines, run as a child process: its whole output against that of the
+// independent implementation, on legal, damaged and arbitrary lines.
+use std::io::{Read, Write};
+use std::path::{Path, PathBuf};
+use std::process::{Child, ChildStdin, Command, Stdio};
+use std::sync::mpsc;
+use std::thread::{self, JoinHandle};
+use std::time::{Duration, Instant};
+
+use wsprcard_tests::inputs::{random_message, random_telemetry};
+use wsprcard_tests::reference::lines as reference;
+use wsprcard_tests::reference::message::{Message, CALLSIGN_LEN, LOCATOR_LEN};
+use wsprcard_tests::reference::telemetry::{self, AS, BS};
+use wsprcard_tests::rng::Rng;
+
+/// How long the program may take and how much it may print before it is stopped. No input here
+/// needs nearly as much.
+const PATIENCE: Duration = Duration::from_secs(60);
+const MOST_OUTPUT: u64 = 1 << 27;
+
+/// The bench sheet's line, and its answer.
+const LINE: &[u8] = b"QQ2XFT GP99 60";
+const ANSWER: &str = "Q2 SK 12340 -15 4100 30 1\n";
+const HEADER: &str = "CH GR ALT TEMP MV KT GPS\n";
+
+fn program() -> PathBuf {
+    let path = Path::new(env!("CARGO_MANIFEST_DIR")).join("../target/bin/telemetry_lines");
+    assert!(path.exists(), "{} is missing: run `make program` first", path.display());
+    path
+}
+
+/// The program's whole output for this input.
+fn run(input: &[u8]) -> Vec<u8> {
+    run_in_pieces(input, input.len().max(1), Duration::ZERO)
+}
+
+/// The same, where the input is written in pieces of this many bytes, with a pause after each
+/// so that the program reads them apart.
+fn run_in_pieces(input: &[u8], piece_len: usize, pause: Duration) -> Vec<u8> {
+    let mut child = Command::new(program())
+        .stdin(Stdio::piped())
+        .stdout(Stdio::piped())
+        .spawn()
+        .unwrap_or_else(|error| panic!("telemetry_lines was not started: {error}"));
+    let writer = write_to(child.stdin.take().unwrap(), input.to_vec(), piece_len, pause);
+    let output = output_of(&mut child);
+    writer.join().expect("the whole input is read");
+    let status = child.wait().unwrap();
+    assert!(status.success(), "telemetry_lines ended with {status}");
+    output
+}
+
+/// Writes beside the test, since the program's output may fill its pipe before it has read all.
+fn write_to(
+    mut stdin: ChildStdin,
+    input: Vec<u8>,
+    piece_len: usize,
+    pause: Duration,
+) -> JoinHandle<()> {
+    thread::spawn(move || {
+        for piece in input.chunks(piece_len) {
+            stdin.write_all(piece).expect("telemetry_lines reads on");
+            stdin.flush().expect("telemetry_lines reads on");
+            thread::sleep(pause);
+        }
+    })
+}
+
+/// Stops a program that doesn't end by itself.
+fn output_of(child: &mut Child) -> Vec<u8> {
+    let mut stdout = child.stdout.take().unwrap().take(MOST_OUTPUT);
+    let (sender, receiver) = mpsc::channel();
+    thread::spawn(move || {
+        let mut output = Vec::new();
+        let read = stdout.read_to_end(&mut output);
+        sender.send(read.map(|_| output))
+    });
+    match receiver.recv_timeout(PATIENCE) {
+        Ok(Ok(output)) if output.len() < MOST_OUTPUT as usize => output,
+        _ => {
+            child.kill().unwrap();
+            panic!("telemetry_lines doesn't end");
+        }
+    }
+}
+
+/// Holds the program's output to the reference's.
+fn check(input: &[u8]) {
+    assert_output(input, &run(input));
+}
+
+/// Shows the first line that is wrong, as whole outputs may be long.
+fn assert_output(input: &[u8], found: &[u8]) {
+    let expected = reference::output(input);
+    if found == expected {
+        return;
+    }
+    let found: Vec<_> = found.split(|&byte| byte == b'\n').collect();
+    let expected: Vec<_> = expected.split(|&byte| byte == b'\n').collect();
+    let same = found.iter().zip(&expected).take_while(|(found, expected)| found == expected);
+    let number = same.count();
+    let line = input.split(|&byte| byte == b'\n').nth(number.wrapping_sub(1)).unwrap_or(b"");
+    panic!(
+        "answer {number} of {}, to {:.100}: {:.100}, not {:.100}",
+        expected.len() - 1,
+        shown(Some(&line)),
+        shown(found.get(number)),
+        shown(expected.get(number))
+    );
+}
+
+fn shown(line: Option<&&[u8]>) -> String {
+    match line {
+        Some(line) => format!("\"{}\"", line.escape_ascii()),
+        None => String::from("nothing"),
+    }
+}
+
+/// Each line with its newline.
+fn joined<Line: AsRef<[u8]>>(lines: impl IntoIterator<Item = Line>) -> Vec<u8> {
+    let mut input = Vec::new();
+    for line in lines {
+        input.extend_from_slice(line.as_ref());
+        input.push(b'\n');
+    }
+    input
+}
+
+fn line_of(message: &Message) -> Vec<u8> {
+    let mut line = message.callsign.to_vec();
+    line.push(b' ');
+    line.extend(message.locator);
+    line.extend(format!(" {:02}", message.power).bytes());
+    line
+}
+
+/// A line of random telemetry.
+fn random_line(rng: &mut Rng) -> Vec<u8> {
+    let telemetry = random_telemetry(rng);
+    line_of(&telemetry::write(&telemetry, CALLSIGN_LEN, LOCATOR_LEN).unwrap())
+}
+
+/// So many lines of random telemetry.
+fn random_lines(rng: &mut Rng, count: usize) -> Vec<u8> {
+    joined((0..count).map(|_| random_line(rng)))
+}
+
+/// A line with a byte or two changed, left out, put in or swapped; now and then it is as it was.
+fn damaged_line(rng: &mut Rng) -> Vec<u8> {
+    let mut line = if rng.coin() { random_line(rng) } else { line_of(&random_message(rng)) };
+    for _ in 0..rng.between(1, 2) {
+        let place = rng.below(line.len() as u64) as usize;
+        let other = rng.below(line.len() as u64) as usize;
+        match rng.below(5) {
+            0 => line[place] = rng.byte(),
+            1 => line[place] = rng.pick(b" 0123456789AQRSXYZaqrxz\r\0"),
+            2 => line.insert(place, rng.pick(b" 0A")),
+            3 => drop(line.remove(place)),
+            _ => line.swap(place, other),
+        }
+    }
+    line
+}
+
+// The published values
+
+#[test]
+fn the_published_lines_are_answered() {
+    let input = b"QQ2XFT GP99 60\n0Z0AAI RM31 33\n000AAA AA00 00\n";
+    let output = "\
+CH GR ALT TEMP MV KT GPS
+Q2 SK 12340 -15 4100 30 1
+refused 12 0
+refused 11 0
+";
+    assert_eq!(String::from_utf8(run(input)).unwrap(), output);
+    assert_eq!(String::from_utf8(run(&input[..input.len() - 1])).unwrap(), output);
+}
+
+/// The answers are worked out by hand.
+#[test]
+fn lines_with_every_refusal_are_answered() {
+    let answers = [
+        ("000AAA AA00 03", "00 AA 0 -50 4000 0 0"),
+        ("0Z0AAH RM31 33", "00 XX 21340 39 3950 82 1"),
+        ("QQ2XFT GP99 6", "refused 1 0"),
+        ("QQ2XFT GP99 060", "refused 1 0"),
+        ("QQ2XFT GP99 60 ", "refused 1 0"),
+        (" QQ2XFT GP99 60", "refused 1 0"),
+        ("QQ2XFT-GP99 60", "refused 1 0"),
+        ("QQ2XFT GP99-60", "refused 1 0"),
+        ("QQ2XFT GP99 6x", "refused 1 0"),
+        ("qQ2XFT GP99 x0", "refused 1 0"),
+        ("QQ2XFT GP99  3", "refused 1 0"),
+        ("QQ2XFT GP99 +3", "refused 1 0"),
+        ("", "refused 1 0"),
+        ("qQ2XFT GP99 60", "refused 2 0"),
+        ("Q 2XFT GP99 60", "refused 2 1"),
+        ("QQAXFT GP99 60", "refused 2 2"),
+        ("QQ29FT GP99 60", "refused 2 3"),
+        ("QQ2X9T GP99 60", "refused 2 4"),
+        ("QQ2XF9 GP99 60", "refused 2 5"),
+        ("QQ2XFT SP99 60", "refused 2 6"),
+        ("QQ2XFT GS99 60", "refused 2 7"),
+        ("QQ2XFT GPA9 60", "refused 2 8"),
+        ("QQ2XFT GP9A 61", "refused 2 9"),
+        ("QQ2XFT GP99 61", "refused 3 0"),
+        ("2Q2XFT GP99 99", "refused 3 0"),
+        ("2Q2 FT GP99 60", "refused 10 0"),
+        ("QQ2 F  GP99 60", "refused 10 3"),
+        ("QQ2X   GP99 60", "refused 10 4"),
+        ("QQ2XF  GP99 57", "refused 10 5"),
+        ("0Z0AAI GP99 57", "refused 11 0"),
+        ("0Z0AAH RM31 37", "refused 11 0"),
+        ("0Z0AAI RM31 40", "refused 12 0"),
+        ("0Z0AAH RM31 40", "refused 13 0"),
+    ];
+    let mut output = String::from(HEADER);
+    for (line, answer) in answers {
+        let whole = format!("{HEADER}{answer}\n");
+        assert_eq!(String::from_utf8(run(&joined([line]))).unwrap(), whole, "{line}");
+        output += &format!("{answer}\n");
+    }
+    let found = run(&joined(answers.map(|(line, _)| line)));
+    assert_eq!(String::from_utf8(found).unwrap(), output);
+}
+
+// Where lines end
+
+#[test]
+fn no_input_gives_the_header_alone() {
+    assert_eq!(run(b""), HEADER.as_bytes());
+}
+
+#[test]
+fn empty_lines_are_refused() {
+    for count in [1, 2, 3, 14, 15, 28, 4_095, 4_096, 4_097, 65_536, 100_000] {
+        let found = run(&vec![b'\n'; count]);
+        let expected = format!("{HEADER}{}", "refused 1 0\n".repeat(count));
+        assert!(found == expected.as_bytes(), "{count} newlines");
+    }
+}
+
+#[test]
+fn the_last_line_may_lack_its_newline() {
+    for count in 1..=20 {
+        let input = joined(vec![LINE; count]);
+        let expected = format!("{HEADER}{}", ANSWER.repeat(count));
+        assert_eq!(run(&input), expected.as_bytes(), "{count} lines");
+        assert_eq!(run(&input[..input.len() - 1]), expected.as_bytes(), "{count} lines");
+    }
+}
+
+/// Every arrangement of up to five parts: newlines, lines, and bytes too few for a line.
+#[test]
+fn every_arrangement_of_newlines_and_lines_is_answered() {
+    let parts = [b"\n".as_slice(), LINE, b"QQ2XFT "];
+    for count in 1..=5 {
+        for arrangement in 0..3_usize.pow(count) {
+            let part = |index| parts[arrangement / 3_usize.pow(index) % 3];
+            check(&(0..count).map(part).collect::<Vec<_>>().concat());
+        }
+    }
+}
+
+/// Lines of every length 0 to 40, cut off or too long, between right ones and as the last.
+#[test]
+fn lines_of_every_length_are_answered() {
+    for filling in [LINE, b" ", b"0", b"QQ2XFT GP99 60 "] {
+        for len in 0..=40 {
+            let line: Vec<u8> = filling.iter().copied().cycle().take(len).collect();
+            let input = joined([LINE, &line, LINE, &line, &line]);
+            check(&input);
+            check(&input[..input.len() - 1]);
+        }
+    }
+}
+
+/// Among them lengths whose lowest 8 or 16 bits are those of a right line, which they start with.
+#[test]
+fn long_lines_are_refused_and_the_next_is_answered() {
+    for len in [100, 270, 526, 4_096, 65_536, 65_550, 100_000, 131_086, 1_000_000] {
+        for filling in [LINE, b"\0", b" "] {
+            let long: Vec<u8> =
+                LINE.iter().chain(filling.iter().cycle()).copied().take(len).collect();
+            let alone = format!("{HEADER}refused 1 0\n");
+            assert_eq!(run(&long), alone.as_bytes(), "{len} bytes");
+            let input = joined([LINE, &long, LINE]);
+            let among = format!("{HEADER}{ANSWER}refused 1 0\n{ANSWER}");
+            assert_eq!(run(&input), among.as_bytes(), "{len} bytes");
+        }
+    }
+}
+
+/// A carriage return belongs to its line, and ends none.
+#[test]
+fn carriage_returns_belong_to_the_line() {
+    let refused = |count| format!("{HEADER}{}", "refused 1 0\n".repeat(count));
+    assert_eq!(run(b"QQ2XFT GP99 60\r\nQQ2XFT GP99 60\r\n"), refused(2).as_bytes());
+    assert_eq!(run(b"QQ2XFT GP99 60\rQQ2XFT GP99 60\r"), refused(1).as_bytes());
+    assert_eq!(run(b"\r\n\r\n\r\n"), refused(3).as_bytes());
+    assert_eq!(run(b"\r"), refused(1).as_bytes());
+    check(b"QQ2XFT GP99 6\r\nQQ2XFT\rGP99 60\n\rQ2XFT GP99 60\n\nQQ2XFT GP99 60\n\r");
+}
+
+/// Newlines and the bytes before them at every place around these multiples of powers of two,
+/// where a program that reads by blocks begins the next one. The bytes before are right lines
+/// or one long line, and right lines follow.
+#[test]
+fn newlines_around_powers_of_two_end_lines() {
+    for boundary in [512, 1_024, 4_096, 8_192, 16_384, 32_768, 65_536, 131_072] {
+        for newline in boundary - 16..=boundary + 16 {
+            let lines = lines_up_to(newline);
+            let long = joined([vec![b'Q'; newline]]);
+            for start in [lines, long] {
+                assert_eq!(start.iter().rposition(|&byte| byte == b'\n'), Some(newline));
+                check(&[start, joined([LINE, LINE]), LINE.to_vec()].concat());
+            }
+        }
+    }
+}
+
+/// A shorter line and then right ones, so that the last newline stands at this place.
+fn lines_up_to(newline: usize) -> Vec<u8> {
+    let len = newline + 1;
+    let first = &LINE[..(len - 1) % 15];
+    [joined([first]), joined(vec![LINE; (len - 1) / 15])].concat()
+}
+
+/// The input in pieces that end anywhere in a line.
+#[test]
+fn lines_are_answered_however_they_arrive() {
+    let mut rng = Rng::new(1);
+    let pause = Duration::from_micros(300);
+    for (piece_len, count) in [
+        (1, 40),
+        (2, 40),
+        (7, 200),
+        (13, 300),
+        (14, 300),
+        (15, 300),
+        (16, 300),
+        (4_095, 30_000),
+        (4_096, 30_000),
+        (4_097, 30_000),
+        (65_535, 70_000),
+        (65_537, 70_000),
+    ] {
+        let mut input = joined((0..count).map(|turn| match turn % 4 {
+            0 => damaged_line(&mut rng),
+            _ => random_line(&mut rng),
+        }));
+        input.extend_from_slice(LINE);
+        assert_output(&input, &run_in_pieces(&input, piece_len, pause));
+    }
+}
+
+// What stands in a line
+
+#[test]
+fn every_byte_at_every_place_is_answered() {
+    let mut rng = Rng::new(2);
+    let mut lines = Vec::new();
+    for place in 0..14 {
+        for byte in 0..=255 {
+            for turn in 0..4 {
+                let mut line = if turn == 0 { LINE.to_vec() } else { random_line(&mut rng) };
+                line[place] = byte;
+                lines.push(line);
+            }
+        }
+    }
+    check(&joined(lines));
+}
+
+/// Every pair of bytes for the power, with telemetry before it that differs in parity.
+#[test]
+fn every_power_is_answered() {
+    for start in [b"QQ2XFT GP99 ", b"QQ2XFT GP98 ", b"0Z0AAH RM31 "] {
+        check(&joined(pairs().map(|pair| [start.as_slice(), &pair].concat())));
+    }
+}
+
+/// Every pair of bytes for the separators.
+#[test]
+fn every_separator_is_answered() {
+    check(&joined(pairs().map(|[first, second]| {
+        let mut line = LINE.to_vec();
+        line[6] = first;
+        line[11] = second;
+        line
+    })));
+}
+
+fn pairs() -> impl Iterator<Item = [u8; 2]> {
+    (0..=u16::MAX).map(u16::to_be_bytes)
+}
+
+#[test]
+fn nul_bytes_are_refused() {
+    let lines: Vec<Vec<u8>> = (0..=40).map(|len| vec![0; len]).collect();
+    let mut input = joined(lines);
+    for place in 0..14 {
+        let mut line = LINE.to_vec();
+        line[place] = 0;
+        input.extend(joined([&line[..], LINE]));
+    }
+    input.extend_from_slice(b"QQ2XFT GP99 60\0");
+    check(&input);
+}
+
+/// Every A, and with it every odd B at least twice: each number that can be printed is.
+#[test]
+fn every_reading_is_printed() {
+    let lines = (0..AS).map(|a| {
+        let callsign = telemetry::callsign_of(b"01Q"[a as usize % 3], b'0' + (a % 10) as u8, a);
+        let (locator, power) = telemetry::locator_and_power_of((2 * a + 1) % BS);
+        line_of(&Message { callsign, locator, power })
+    });
+    check(&joined(lines));
+}
+
+// Random and long inputs
+
+/// Short inputs of any bytes, with few newlines or many.
+#[test]
+fn arbitrary_bytes_are_answered() {
+    let mut rng = Rng::new(3);
+    for turn in 0..400 {
+        let len = rng.below(200) as usize;
+        let mut input = rng.bytes(len);
+        sprinkle_newlines(&mut rng, &mut input, 2 + turn % 30);
+        check(&input);
+    }
+}
+
+#[test]
+fn many_arbitrary_bytes_are_answered() {
+    let mut rng = Rng::new(4);
+    for one_in in [2, 15, 100, 5_000, 200_000] {
+        let mut input = rng.bytes(1 << 20);
+        sprinkle_newlines(&mut rng, &mut input, one_in);
+        check(&input);
+    }
+}
+
+/// Puts a newline in the place of one byte in so many.
+fn sprinkle_newlines(rng: &mut Rng, input: &mut [u8], one_in: u64) {
+    for byte in input {
+        if rng.below(one_in) == 0 {
+            *byte = b'\n';
+        }
+    }
+}
+
+#[test]
+fn long_inputs_are_answered() {
+    let mut rng = Rng::new(5);
+    check(&random_lines(&mut rng, 70_000));
+    check(&joined((0..70_000).map(|_| damaged_line(&mut rng))));
+    check(&joined((0..70_000).map(|_| line_of(&random_message(&mut rng)))));
+}
+
+/// 01's three lines over and over: a mebibyte in well under a second. The best of three runs
+/// counts, as other tests run beside this one.
+#[test]
+#[cfg_attr(debug_assertions, ignore = "times the release build")]
+fn a_mebibyte_takes_under_a_second() {
+    let lines = [LINE, b"0Z0AAI RM31 33", b"000AAA AA00 00"];
+    let input = joined(lines.into_iter().cycle().take((1 << 20) / 15 + 1));
+    let times = (0..3).map(|_| {
+        let start = Instant::now();
+        let found = run(&input);
+        let time = start.elapsed();
+        assert_output(&input, &found);
+        time
+    });
+    let best = times.min().unwrap();
+    println!("{} bytes in {best:?}", input.len());
+    assert!(best < Duration::from_secs(1), "{} bytes took {best:?}", input.len());
+}
