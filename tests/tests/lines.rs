@@ -84,6 +84,11 @@ fn output_of(child: &mut Child) -> Vec<u8> {
     }
 }
 
+/// The program's output as text, for outputs that are spelled out.
+fn text_of(input: &[u8]) -> String {
+    String::from_utf8_lossy(&run(input)).into_owned()
+}
+
 /// Holds the program's output to the reference's.
 fn check(input: &[u8]) {
     assert_output(input, &run(input));
@@ -173,8 +178,8 @@ Q2 SK 12340 -15 4100 30 1
 refused 12 0
 refused 11 0
 ";
-    assert_eq!(String::from_utf8(run(input)).unwrap(), output);
-    assert_eq!(String::from_utf8(run(&input[..input.len() - 1])).unwrap(), output);
+    assert_eq!(text_of(input), output);
+    assert_eq!(text_of(&input[..input.len() - 1]), output);
 }
 
 /// The answers are worked out by hand.
@@ -218,26 +223,24 @@ fn lines_with_every_refusal_are_answered() {
     let mut output = String::from(HEADER);
     for (line, answer) in answers {
         let whole = format!("{HEADER}{answer}\n");
-        assert_eq!(String::from_utf8(run(&joined([line]))).unwrap(), whole, "{line}");
+        assert_eq!(text_of(&joined([line])), whole, "{line}");
         output += &format!("{answer}\n");
     }
-    let found = run(&joined(answers.map(|(line, _)| line)));
-    assert_eq!(String::from_utf8(found).unwrap(), output);
+    assert_eq!(text_of(&joined(answers.map(|(line, _)| line))), output);
 }
 
 // Where lines end
 
 #[test]
 fn no_input_gives_the_header_alone() {
-    assert_eq!(run(b""), HEADER.as_bytes());
+    assert_eq!(text_of(b""), HEADER);
 }
 
 #[test]
 fn empty_lines_are_refused() {
     for count in [1, 2, 3, 14, 15, 28, 4_095, 4_096, 4_097, 65_536, 100_000] {
-        let found = run(&vec![b'\n'; count]);
         let expected = format!("{HEADER}{}", "refused 1 0\n".repeat(count));
-        assert!(found == expected.as_bytes(), "{count} newlines");
+        assert!(text_of(&vec![b'\n'; count]) == expected, "{count} newlines");
     }
 }
 
@@ -246,8 +249,8 @@ fn the_last_line_may_lack_its_newline() {
     for count in 1..=20 {
         let input = joined(vec![LINE; count]);
         let expected = format!("{HEADER}{}", ANSWER.repeat(count));
-        assert_eq!(run(&input), expected.as_bytes(), "{count} lines");
-        assert_eq!(run(&input[..input.len() - 1]), expected.as_bytes(), "{count} lines");
+        assert_eq!(text_of(&input), expected, "{count} lines");
+        assert_eq!(text_of(&input[..input.len() - 1]), expected, "{count} lines");
     }
 }
 
@@ -284,10 +287,10 @@ fn long_lines_are_refused_and_the_next_is_answered() {
             let long: Vec<u8> =
                 LINE.iter().chain(filling.iter().cycle()).copied().take(len).collect();
             let alone = format!("{HEADER}refused 1 0\n");
-            assert_eq!(run(&long), alone.as_bytes(), "{len} bytes");
+            assert_eq!(text_of(&long), alone, "{len} bytes");
             let input = joined([LINE, &long, LINE]);
             let among = format!("{HEADER}{ANSWER}refused 1 0\n{ANSWER}");
-            assert_eq!(run(&input), among.as_bytes(), "{len} bytes");
+            assert_eq!(text_of(&input), among, "{len} bytes");
         }
     }
 }
@@ -296,10 +299,10 @@ fn long_lines_are_refused_and_the_next_is_answered() {
 #[test]
 fn carriage_returns_belong_to_the_line() {
     let refused = |count| format!("{HEADER}{}", "refused 1 0\n".repeat(count));
-    assert_eq!(run(b"QQ2XFT GP99 60\r\nQQ2XFT GP99 60\r\n"), refused(2).as_bytes());
-    assert_eq!(run(b"QQ2XFT GP99 60\rQQ2XFT GP99 60\r"), refused(1).as_bytes());
-    assert_eq!(run(b"\r\n\r\n\r\n"), refused(3).as_bytes());
-    assert_eq!(run(b"\r"), refused(1).as_bytes());
+    assert_eq!(text_of(b"QQ2XFT GP99 60\r\nQQ2XFT GP99 60\r\n"), refused(2));
+    assert_eq!(text_of(b"QQ2XFT GP99 60\rQQ2XFT GP99 60\r"), refused(1));
+    assert_eq!(text_of(b"\r\n\r\n\r\n"), refused(3));
+    assert_eq!(text_of(b"\r"), refused(1));
     check(b"QQ2XFT GP99 6\r\nQQ2XFT\rGP99 60\n\rQ2XFT GP99 60\n\nQQ2XFT GP99 60\n\r");
 }
 
@@ -461,8 +464,8 @@ fn long_inputs_are_answered() {
     check(&joined((0..70_000).map(|_| line_of(&random_message(&mut rng)))));
 }
 
-/// 01's three lines over and over: a mebibyte in well under a second. The best of three runs
-/// counts, as other tests run beside this one.
+/// 01's three lines over and over. The best of three runs counts, as other tests run beside
+/// this one.
 #[test]
 #[cfg_attr(debug_assertions, ignore = "times the release build")]
 fn a_mebibyte_takes_under_a_second() {

@@ -10,6 +10,7 @@ use wsprcard_tests::inputs::{
     spoil, spoil_telemetry,
 };
 use wsprcard_tests::lent::Lent;
+use wsprcard_tests::reference::frame::FRAME_LEN;
 use wsprcard_tests::reference::message::{Message, CALLSIGN_LEN, CHARACTERS, LOCATOR_LEN, POWERS};
 use wsprcard_tests::reference::telemetry::{self as reference, Telemetry, AS, BS, ROOM_A, ROOM_B};
 use wsprcard_tests::rng::Rng;
@@ -122,13 +123,6 @@ fn whole_steps(written: &Telemetry) -> Telemetry {
         speed: (written.speed - written.speed % 20) / 10,
         ..*written
     }
-}
-
-/// The inputs as they were, but for one that the test sets.
-fn changed(telemetry: &Telemetry, change: impl Fn(&mut Telemetry)) -> Telemetry {
-    let mut changed = *telemetry;
-    change(&mut changed);
-    changed
 }
 
 /// The bench sheet's report.
@@ -247,7 +241,7 @@ fn every_corner_of_the_ranges_is_written_and_read_back() {
 
 /// Writes telemetry with this input changed to each of these values, the others random, and
 /// holds the answer to: written and read back in whole steps, or refused 14 at this place.
-fn each_is_written_or_refused<Value: Copy>(
+fn each_is_written_or_refused<Value>(
     seed: u64,
     place: usize,
     values: impl IntoIterator<Item = Value>,
@@ -256,8 +250,8 @@ fn each_is_written_or_refused<Value: Copy>(
 ) {
     let mut check = Check::new(seed);
     for value in values {
-        let others = random_telemetry(&mut check.rng);
-        let telemetry = changed(&others, |telemetry| set(telemetry, value));
+        let mut telemetry = random_telemetry(&mut check.rng);
+        set(&mut telemetry, value);
         let found = check.write(&telemetry);
         if telemetry.in_range()[place] {
             let message = message_of(&telemetry);
@@ -650,7 +644,7 @@ fn the_first_space_is_refused() {
 fn numbers_near_their_ends_are_read_or_refused() {
     let mut check = Check::new(22);
     let near_a = (AS - 40..AS + 40).chain(ROOM_A - 40..ROOM_A).chain(0..40);
-    for a in near_a.step_by(3) {
+    for a in near_a {
         for b in (BS - 60..BS + 60).chain(ROOM_B - 60..ROOM_B).chain(0..60) {
             let message = message_with(&mut check.rng, a, b);
             let found = check.read_message(&message);
@@ -664,10 +658,10 @@ fn numbers_near_their_ends_are_read_or_refused() {
         }
     }
     check.finish(&[
-        ("read", 0, 27 * 60),
-        ("read", 11, 53 * 120),
-        ("read", 12, 26 * 120),
-        ("read", 13, 26 * 60),
+        ("read", 0, 80 * 60),
+        ("read", 11, 160 * 120),
+        ("read", 12, 80 * 120),
+        ("read", 13, 80 * 60),
     ]);
 }
 
@@ -860,7 +854,7 @@ fn null_with_length_0_is_refused() {
     let mut check = Check::new(29);
     for turn in 0..2_000 {
         for nulls in 1..4 {
-            let (callsign, locator, power) = faulty_report(&mut check.rng, turn % 128 << 2);
+            let (callsign, locator, power) = faulty_report(&mut check.rng, (turn % 128) << 2);
             let mut telemetry = random_telemetry(&mut check.rng);
             if turn % 2 == 1 {
                 spoil_telemetry(&mut check.rng, &mut telemetry, turn as usize % 9);
@@ -1021,6 +1015,24 @@ fn a_read_message_is_written_again() {
         }
     }
     assert!(accepted >= 130_000 && rejected >= 130_000, "{accepted} read, {rejected} refused");
+}
+
+/// Telemetry to a message, its word and its frame, and all the way back, by the library alone.
+#[test]
+fn telemetry_goes_through_a_frame() {
+    let mut rng = Rng::new(36);
+    for _ in 0..20_000 {
+        let telemetry = random_telemetry(&mut rng);
+        let Message { callsign, locator, power } = message_of(&telemetry);
+        let mut frame = [255; FRAME_LEN];
+        let written = card::write_message(&callsign, &locator, power, &mut frame);
+        assert_eq!(written.refusal, 0, "{telemetry:?}");
+        let (mut callsign, mut locator) = ([0; CALLSIGN_LEN], [0; LOCATOR_LEN]);
+        let read = card::read_message(&frame, &mut callsign, &mut locator);
+        assert_eq!(read.refusal, 0, "{telemetry:?}");
+        let message = Message { callsign, locator, power: read.power };
+        assert_eq!(telemetry_in(&message), whole_steps(&telemetry), "{message:?}");
+    }
 }
 
 /// All callsigns of one channel are read with a report's locator and power, and all locators

@@ -72,7 +72,7 @@ pub fn read(callsign: &[u8], locator: &[u8], power: u32) -> Result<Telemetry, Re
     }
     let a = a_in(callsign);
     let b = b_in(locator, power);
-    if b % 2 == 0 {
+    if b.is_multiple_of(2) {
         return Err(Refusal { number: 11, place: 0 });
     }
     if a >= AS {
