@@ -2,23 +2,25 @@
 use mathlib.Core.Path.{_≡_, refl, sym, _∙_}
 use Prim.Native.Nat.{ℕ, _%_, _≤_, _<_}
 use native.Mathlib.Omega.{arith}
-use mathlib.Core.Bool.{true, false}
+use mathlib.Core.Bool.{true, false, not}
 use mathlib.Core.List.{List}
 use lib.Dec.{eqb, leb, ltb}
 use lib.ListN.{length, getD}
 use borrow.Author.Tests.{le-leb, lt-leb, leb-false, lt-ltb, le-ltb, ltb-false, eq-eqb, ne-eqb, eqb-false}
-use Rattle.basics.proofs.Choice.{cond-passed}
+use mathlib.Core.Logic.{_↔_}
+use Rattle.basics.proofs.Choice.{cond-passed, cond-both}
 use Rattle.basics.proofs.ListLaws.{all-pass, none-fails}
 use Rattle.refusal.specs.declared.Refusal.{Refusal}
 use Rattle.refusal.specs.Refusals.{refusal, wrongLength, notTelemetry, extendedTelemetry, badPositionNumber, badSensorNumber, outOfRange}
-use Rattle.message.specs.Answer.{rightLengths, packed}
+use Rattle.message.specs.Answer.{rightLengths, packed, packedNumbers, givenNumbers}
 use Rattle.message.specs.declared.Packed.{Packed}
 use Rattle.message.specs.declared.Given.{Given}
-use Rattle.message.proofs.AnswerLaws.{Legal, legal-of-packed, refused-no-power}
+use Rattle.message.proofs.AnswerLaws.{Legal, legal-of-packed, packed-answered, refused-no-word, refused-no-power}
 use Rattle.telemetry.specs.Ranges.{firstOutOfRange}
 use Rattle.telemetry.specs.Numbers.{sensorNumber, readingOf}
 use Rattle.telemetry.specs.Characters.{positionOf, powerWith, sensorsOf, basicAt, firstForeign}
-use Rattle.telemetry.specs.Answer.{measuredAnswer, written, numbersAnswer, messageAnswer, ifPacked, decoded}
+use Rattle.telemetry.specs.Answer.{measuredAnswer, written, numbersAnswer, messageAnswer, ifPacked, decoded, decodedNumbers}
+use Rattle.telemetry.specs.RoundTrip.{IsRefused}
 use Rattle.telemetry.specs.declared.Measured.{Measured}
 use Rattle.telemetry.specs.declared.Reading.{Reading}
 use Rattle.telemetry.specs.declared.Decoded.{Decoded}
@@ -149,3 +151,50 @@ basic callsign locator power r e = go (packed callsign locator power) refl
     go (Packed.Word w) p =
         basic-message callsign locator power r (legal-of-packed callsign locator power w p .0) (sym (decoded-message callsign locator power w p) ∙ e)
     go (Packed.Refused f) p = absurd (refused-no-reading f r (sym (decoded-refused callsign locator power f p) ∙ e))
+
+-- ---- The refusal number 0 is that of the answers that are no refusal
+
+pub written-answered : (callsign locator : List ℕ) (m : Measured) → givenNumbers (written callsign locator m) .number ≡ 0
+    → written callsign locator m ≡ Given.Power (givenNumbers (written callsign locator m) .power)
+unfolding written measuredAnswer givenNumbers
+written-answered callsign locator m =
+    let P : Given → Type 0 = λ a. givenNumbers a .number ≡ 0 → a ≡ Given.Power (givenNumbers a .power) in
+    cond-both P (not (rightLengths (length callsign) (length locator))) (λ z. absurd (omega arith))
+    (cond-both P (ltb (firstOutOfRange m) 9) (λ z. absurd (omega arith)) (λ z. refl))
+
+-- An answer with the refusal number 0 has readings.
+Answered : Decoded → Type 0
+Answered a = decodedNumbers a .number ≡ 0 → a ≡ Decoded.Telemetry (decodedNumbers a .reading)
+
+message-answered : (callsign locator : List ℕ) (power : ℕ) → Answered (messageAnswer callsign locator power)
+unfolding Answered messageAnswer numbersAnswer decodedNumbers
+message-answered callsign locator power =
+    let a = positionOf callsign in
+    let b = sensorsOf locator power in
+    cond-both Answered (ltb (firstForeign callsign) 6) (λ z. absurd (omega arith))
+    (cond-both Answered (eqb (b % 2) 0) (λ z. absurd (omega arith))
+    (cond-both Answered (leb 615_168 a) (λ z. absurd (omega arith))
+    (cond-both Answered (leb 604_800 b) (λ z. absurd (omega arith)) (λ z. refl))))
+
+if-answered : (answer : Packed) (d : Decoded) → (packedNumbers answer .number ≡ 0 → answer ≡ Packed.Word (packedNumbers answer .word)) → Answered d
+    → Answered (ifPacked answer d)
+unfolding Answered ifPacked decodedNumbers packedNumbers
+if-answered (Packed.Word w) d h k = k
+if-answered (Packed.Refused f) d h k = λ z. absurd (refused-no-word f _ (h z))
+
+pub decoded-answered : (callsign locator : List ℕ) (power : ℕ) → decodedNumbers (decoded callsign locator power) .number ≡ 0
+    → decoded callsign locator power ≡ Decoded.Telemetry (decodedNumbers (decoded callsign locator power) .reading)
+unfolding Answered decoded
+decoded-answered callsign locator power =
+    if-answered (packed callsign locator power) (messageAnswer callsign locator power) (packed-answered callsign locator power)
+    (message-answered callsign locator power)
+
+nonzero-refused : (answer : Decoded) → (decodedNumbers answer .number ≡ 0 → ⊥) → IsRefused answer
+unfolding decodedNumbers
+nonzero-refused (Decoded.Telemetry r) nonzero = nonzero refl
+nonzero-refused (Decoded.Refused f) nonzero = tt
+
+pub refused-number : (callsign locator : List ℕ) (power : ℕ)
+    → IsRefused (decoded callsign locator power) ↔ (decodedNumbers (decoded callsign locator power) .number ≡ 0 → ⊥)
+refused-number callsign locator power =
+    (λ refused zero. rw (decoded-answered callsign locator power zero) at refused, λ nonzero. nonzero-refused (decoded callsign locator power) nonzero)

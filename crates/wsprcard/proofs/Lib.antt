@@ -1,3 +1,4 @@
--- `MessageResults`, `FrameResults`: what the layers of messages and of frames promise, in the terms of the C interface.
+-- `MessageResults`, `FrameResults`, `TelemetryResults`: what the layers promise, in the terms of the C interface.
 mod MessageResults
 mod FrameResults
+mod TelemetryResults

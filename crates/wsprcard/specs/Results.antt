@@ -3,6 +3,7 @@ use Prim.Native.Nat.{ℕ}
 use mathlib.Core.Path.{_≡_}
 use mathlib.Core.Logic.{_↔_}
 use mathlib.Core.List.{List}
+use lib.IntN.{ℤ}
 use lib.ListN.{length}
 use Rattle.refusal.specs.Refusals.{noWord}
 use Rattle.message.specs.Answer.{packed, WordNumbers, PowerNumbers}
@@ -11,9 +12,15 @@ use Rattle.message.specs.declared.Packed.{Packed}
 use Rattle.frame.specs.Answer.{writtenRefusal}
 use Rattle.frame.specs.RoundTrip.{ReadsAsWord, WordWritesAs, NeverFromWord, RightForm, NoWord, ReadsAsMessage, MessageWritesAs, NeverFromMessage}
 use Rattle.frame.specs.declared.Written.{Written}
+use Rattle.telemetry.specs.Answer.{decoded, ReadingNumbers}
+use Rattle.telemetry.specs.RoundTrip.{quantised, inTenths, WritesAs, NeverWritten}
+use Rattle.telemetry.specs.declared.Measured.{Measured}
+use Rattle.telemetry.specs.declared.Reading.{Reading}
+use Rattle.telemetry.specs.declared.Decoded.{Decoded}
 use Rattle.wsprcard.specs.declared.WsprWritten.{WsprWritten}
 use Rattle.wsprcard.specs.declared.WsprWord.{WsprWord}
 use Rattle.wsprcard.specs.declared.WsprMessage.{WsprMessage}
+use Rattle.wsprcard.specs.declared.U4bReading.{U4bReading}
 
 -- ---- The answers' result numbers, as the layer's definition gives them, field by field
 
@@ -25,6 +32,53 @@ wordResult numbers = record { refusal = numbers .number; place = numbers .place;
 
 unfoldable pub messageResult : PowerNumbers → WsprMessage
 messageResult numbers = record { refusal = numbers .number; place = numbers .place; power = numbers .power }
+
+unfoldable pub readingResult : ReadingNumbers → U4bReading
+readingResult numbers =
+    let r = numbers .reading in
+    record {
+      refusal = numbers .number;
+      place = numbers .place;
+      first = r .first;
+      third = r .third;
+      grid5 = r .grid5;
+      grid6 = r .grid6;
+      altitude = r .altitude;
+      temperature = r .temperature;
+      voltage = r .voltage;
+      speed = r .speed;
+      gps = r .gps;
+    }
+
+-- ---- The arguments and results of telemetry as the layer's records
+
+-- What is measured, from the arguments in their order.
+abbrev pub measuredFrom : ℕ → ℕ → ℕ → ℕ → ℕ → ℤ → ℕ → ℕ → ℕ → Measured
+measuredFrom first third grid5 grid6 altitude temperature voltage speed gps = record {
+  first = first;
+  third = third;
+  grid5 = grid5;
+  grid6 = grid6;
+  altitude = altitude;
+  temperature = temperature;
+  voltage = voltage;
+  speed = speed;
+  gps = gps;
+}
+
+-- The readings in a result.
+abbrev pub readingIn : U4bReading → Reading
+readingIn r = record {
+  first = r .first;
+  third = r .third;
+  grid5 = r .grid5;
+  grid6 = r .grid6;
+  altitude = r .altitude;
+  temperature = r .temperature;
+  voltage = r .voltage;
+  speed = r .speed;
+  gps = r .gps;
+}
 
 -- ---- What the calls promise of each other: a refusal number of 0 is success
 
@@ -68,3 +122,15 @@ MessageWritesFrame r frame callsign locator = r .refusal ≡ 0 → MessageWrites
 abbrev pub MessageFrameRefusedExactly : WsprMessage → List ℕ → List ℕ → List ℕ → Type 0
 MessageFrameRefusedExactly r frame callsign locator =
     length callsign ≡ 6 → length locator ≡ 4 → (r .refusal ≡ 0 → ⊥) ↔ NeverFromMessage frame
+
+-- What was measured and written reads back, quantised.
+abbrev pub TelemetryReadsBack : WsprMessage → Measured → List ℕ → List ℕ → Type 0
+TelemetryReadsBack r m callsign locator = r .refusal ≡ 0 → decoded callsign locator (r .power) ≡ Decoded.Telemetry (quantised m)
+
+-- What was read writes the message again, with degrees and knots in tenths.
+abbrev pub TelemetryWritesBack : U4bReading → List ℕ → List ℕ → ℕ → Type 0
+TelemetryWritesBack r callsign locator power = r .refusal ≡ 0 → WritesAs (inTenths (readingIn r)) callsign locator power
+
+-- The message is refused exactly where nothing that is measured writes it.
+abbrev pub TelemetryRefusedExactly : U4bReading → List ℕ → List ℕ → ℕ → Type 0
+TelemetryRefusedExactly r callsign locator power = (r .refusal ≡ 0 → ⊥) ↔ NeverWritten callsign locator power

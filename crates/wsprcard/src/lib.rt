@@ -3,12 +3,15 @@
 ghost use mathlib.Core.Path.{_≡_};
 ghost use Rattle.message.specs.Answer.{packed, unpacked, callsignAfter, locatorAfter, packedNumbers, givenNumbers, wordGiven, wordRefused};
 ghost use Rattle.frame.specs.Answer.{wordWritten, messageWritten, frameAfterWord, frameAfterMessage, wordRead, messageRead, callsignRead, locatorRead, readNumbers};
-ghost use Rattle.wsprcard.specs.Results.{writtenResult, wordResult, messageResult, PackedReadsBack, MessagePacksBack, UnpackRefusedExactly, FrameReadsAsWord, FrameReadsAsMessage, WordWritesFrame, FrameRefusedExactly, NoWordExactly, MessageWritesFrame, MessageFrameRefusedExactly};
+ghost use Rattle.telemetry.specs.Answer.{written, decoded, decodedNumbers, callsignAfter as callsignWritten, locatorAfter as locatorWritten};
+ghost use Rattle.wsprcard.specs.Results.{writtenResult, wordResult, messageResult, readingResult, measuredFrom, PackedReadsBack, MessagePacksBack, UnpackRefusedExactly, FrameReadsAsWord, FrameReadsAsMessage, WordWritesFrame, FrameRefusedExactly, NoWordExactly, MessageWritesFrame, MessageFrameRefusedExactly, TelemetryReadsBack, TelemetryWritesBack, TelemetryRefusedExactly};
 use frame::Read;
 use frame::Written;
 use message::Given;
 use message::Packed;
 use refusal::Refusal;
+use telemetry::Decoded;
+use telemetry::Measured;
 
 // Refusal number (0: success) and place.
 #[repr(C)]
@@ -31,6 +34,22 @@ pub struct WsprMessage {
     pub refusal: u32,
     pub place: u32,
     pub power: u32,
+}
+
+// Refusal number (0: success), place, and the readings of a telemetry message.
+#[repr(C)]
+pub struct U4bReading {
+    pub refusal: u32,
+    pub place: u32,
+    pub first: u8,
+    pub third: u8,
+    pub grid5: u8,
+    pub grid6: u8,
+    pub altitude: u32,
+    pub temperature: i32,
+    pub voltage: u32,
+    pub speed: u32,
+    pub gps: u32,
 }
 
 // The result of writing a frame.
@@ -85,6 +104,40 @@ fn message_result(answer: Given) -> WsprMessage
             refusal: refusal.number,
             place: refusal.place,
             power: 0,
+        },
+    }
+}
+
+// The result of reading telemetry.
+fn reading_result(answer: Decoded) -> U4bReading
+    ensures { λ r. ⌜ r ≡ readingResult (decodedNumbers answer) ⌝ }
+{
+    match answer {
+        Decoded::Telemetry(reading) => U4bReading {
+            refusal: 0,
+            place: 0,
+            first: reading.first,
+            third: reading.third,
+            grid5: reading.grid5,
+            grid6: reading.grid6,
+            altitude: reading.altitude,
+            temperature: reading.temperature,
+            voltage: reading.voltage,
+            speed: reading.speed,
+            gps: reading.gps,
+        },
+        Decoded::Refused(refusal) => U4bReading {
+            refusal: refusal.number,
+            place: refusal.place,
+            first: 0,
+            third: 0,
+            grid5: 0,
+            grid6: 0,
+            altitude: 0,
+            temperature: 0,
+            voltage: 0,
+            speed: 0,
+            gps: 0,
         },
     }
 }
@@ -166,4 +219,48 @@ pub extern "C" fn wspr_read_message(
     ensures refuses_exactly { λ r. ⌜ MessageFrameRefusedExactly r (now (frame .entry)) (now (callsign .entry)) (now (locator .entry)) ⌝ }
 {
     message_result(frame::read_message(frame, callsign, locator))
+}
+
+// The message of what was measured: its callsign and locator are written, its power is returned.
+#[no_mangle]
+pub extern "C" fn u4b_write(
+    first: u8,
+    third: u8,
+    grid5: u8,
+    grid6: u8,
+    altitude: u32,
+    temperature: i32,
+    voltage: u32,
+    speed: u32,
+    gps: u32,
+    callsign: &mut [u8],
+    locator: &mut [u8],
+) -> WsprMessage
+    ensures answer { λ r. ⌜ r ≡ messageResult (givenNumbers (written (now (callsign .entry)) (now (locator .entry)) (measuredFrom first third grid5 grid6 altitude temperature voltage speed gps))) ⌝ }
+    ensures callsign_after { λ _. ⌜ now (callsign .exit) ≡ callsignWritten (now (callsign .entry)) (now (locator .entry)) (measuredFrom first third grid5 grid6 altitude temperature voltage speed gps) ⌝ }
+    ensures locator_after { λ _. ⌜ now (locator .exit) ≡ locatorWritten (now (callsign .entry)) (now (locator .entry)) (measuredFrom first third grid5 grid6 altitude temperature voltage speed gps) ⌝ }
+    ensures reads_back { λ r. ⌜ TelemetryReadsBack r (measuredFrom first third grid5 grid6 altitude temperature voltage speed gps) (now (callsign .exit)) (now (locator .exit)) ⌝ }
+{
+    let measured = Measured {
+        first,
+        third,
+        grid5,
+        grid6,
+        altitude,
+        temperature,
+        voltage,
+        speed,
+        gps,
+    };
+    message_result(telemetry::write(measured, callsign, locator))
+}
+
+// The telemetry of a message.
+#[no_mangle]
+pub extern "C" fn u4b_read(callsign: &[u8], locator: &[u8], power: u32) -> U4bReading
+    ensures answer { λ r. ⌜ r ≡ readingResult (decodedNumbers (decoded (now (callsign .entry)) (now (locator .entry)) power)) ⌝ }
+    ensures writes_back { λ r. ⌜ TelemetryWritesBack r (now (callsign .entry)) (now (locator .entry)) power ⌝ }
+    ensures refuses_exactly { λ r. ⌜ TelemetryRefusedExactly r (now (callsign .entry)) (now (locator .entry)) power ⌝ }
+{
+    reading_result(telemetry::read(callsign, locator, power))
 }
