@@ -1,11 +1,40 @@
--- The bench sheet agrees with the definitions: antt computes both columns of its table.
-use mathlib.Core.Path.{refl}
-use Rattle.radix.specs.Numeral.{numberOf, numberFrom}
-use Rattle.message.specs.Character.{value, callsignSets, locatorSets, setAt, digitAt, overPlaces, digitsFrom}
-use Rattle.message.specs.Word.{callsignRadices, callsignNumber, locatorNumberFrom, locatorNumber, lowerNumber}
-use Rattle.worked_examples.specs.BenchSheet.{bytes, number, benchSheet, Agrees}
+-- The bench sheet agrees with the definitions: antt computes both columns of its table, in one test of all rows.
+use mathlib.Core.Path.{_≡_, refl}
+use mathlib.Core.Bool.{Bool, true}
+use mathlib.Core.List.{List, [], _∷_}
+use Rattle.basics.specs.Lists.{firstFailing, firstFalse, sameList}
+use Rattle.basics.proofs.Choice.{both-true}
+use Rattle.basics.proofs.Tables.{every}
+use Rattle.basics.proofs.ListLaws.{sameList-equal}
+use Rattle.radix.specs.Numeral.{count, numberOf, numberFrom, digitsOf}
+use Rattle.power.specs.Powers.{powers, indexIn, powerIndex, powerAt, legalPower}
+use Rattle.message.specs.Character.{value, character, callsignSets, locatorSets, setAt, legalAt, digitAt, characterAt, overPlaces, digitsFrom, charactersFrom}
+use Rattle.message.specs.Word.{callsignRadices, callsignNumber, locatorNumberFrom, locatorNumber, lowerNumber, wordFrom, wordOf}
+use Rattle.message.specs.Answer.{rightLengths, packed, givenNumbers}
+use Rattle.telemetry.specs.Ranges.{isFirst, temperatureInRange, inRanges, firstOutOfRange}
+use Rattle.telemetry.specs.Codes.{altitudeCode, temperatureCode, voltageCode, speedCode, metres, degrees, millivolts, knots}
+use Rattle.telemetry.specs.Numbers.{positionRadices, positionDigits, positionNumber, sensorRadices, sensorDigits, sensorNumber, readingFrom, readingOf}
+use Rattle.telemetry.specs.Characters.{callsignRadices as placesRadices, callsignWith, positionOf, locatorRadices, locatorWith, powerWith, sensorsOf, basicAt, firstForeign}
+use Rattle.telemetry.specs.Answer.{measuredAnswer, callsignOf, locatorOf, numbersAnswer, messageAnswer, ifPacked, decoded, decodedNumbers}
+use Rattle.worked_examples.specs.BenchSheet.{Row, bytes, number, text, refused, measuredAt, writeRefused, readRefused, benchSheet, Agrees}
+
+abbrev same : Row → Bool
+same r = sameList (r .given) (r .stated)
+
+-- Where the test holds of every row, the rows agree.
+agree : (rows : List Row) → every same rows ≡ true → Agrees rows
+unfolding Agrees
+agree [] e = tt
+agree (r ∷ rs) e =
+    let tests = both-true (same r) (every same rs) e in
+    (sameList-equal (r .given) (r .stated) (tests .0), agree rs (tests .1))
 
 pub bench-sheet-agrees : Agrees benchSheet
-unfolding numberOf numberFrom value callsignSets locatorSets setAt digitAt overPlaces digitsFrom callsignRadices callsignNumber
-    locatorNumberFrom locatorNumber lowerNumber bytes number benchSheet Agrees
-bench-sheet-agrees = search refl
+unfolding sameList firstFailing firstFalse count numberOf numberFrom digitsOf powers indexIn powerIndex powerAt legalPower value character
+    callsignSets locatorSets setAt legalAt digitAt characterAt overPlaces digitsFrom charactersFrom callsignRadices callsignNumber
+    locatorNumberFrom locatorNumber lowerNumber wordFrom wordOf rightLengths packed givenNumbers isFirst temperatureInRange inRanges
+    firstOutOfRange altitudeCode temperatureCode voltageCode speedCode metres degrees millivolts knots positionRadices positionDigits
+    positionNumber sensorRadices sensorDigits sensorNumber readingFrom readingOf placesRadices callsignWith positionOf locatorRadices
+    locatorWith powerWith sensorsOf basicAt firstForeign measuredAnswer callsignOf locatorOf numbersAnswer messageAnswer ifPacked decoded
+    decodedNumbers bytes number text refused measuredAt writeRefused readRefused benchSheet
+bench-sheet-agrees = agree benchSheet refl

@@ -4,7 +4,14 @@ use Prim.Native.Char.{code}
 use Prim.Native.String.{String, [] as empty, _∷_ as _∷ˢ_}
 use mathlib.Core.Path.{_≡_}
 use mathlib.Core.List.{List, [], _∷_}
+use lib.IntN.{pos, negℤ}
 use Rattle.message.specs.Word.{callsignNumber, locatorNumber, lowerNumber}
+use Rattle.message.specs.Answer.{givenNumbers}
+use Rattle.telemetry.specs.Codes.{altitudeCode, voltageCode, millivolts}
+use Rattle.telemetry.specs.Numbers.{positionNumber, sensorNumber}
+use Rattle.telemetry.specs.Characters.{callsignWith, locatorWith, powerWith, sensorsOf}
+use Rattle.telemetry.specs.Answer.{measuredAnswer, callsignOf, locatorOf, decoded, decodedNumbers}
+use Rattle.telemetry.specs.declared.Measured.{Measured}
 
 -- The bytes of a text in ASCII.
 unfoldable pub bytes : String → List ℕ
@@ -20,6 +27,40 @@ pub record Row : Type 0 where
 unfoldable pub number : ℕ → ℕ → Row
 number given stated = record { given = given ∷ []; stated = stated ∷ [] }
 
+-- A row of a text.
+unfoldable pub text : List ℕ → String → Row
+text given stated = record { given = given; stated = bytes stated }
+
+-- A row of a refusal: its number and place.
+unfoldable pub refused : ℕ → ℕ → ℕ → ℕ → Row
+refused number place statedNumber statedPlace = record { given = number ∷ place ∷ []; stated = statedNumber ∷ statedPlace ∷ [] }
+
+-- "channel Q2, SK, 12,340 m, -150, 4,100 mV, 300 tenths, GPS 1", at any altitude
+unfoldable pub measuredAt : ℕ → Measured
+measuredAt altitude = record {
+  first = 81;
+  third = 50;
+  grid5 = 83;
+  grid6 = 75;
+  altitude = altitude;
+  temperature = negℤ (pos 150);
+  voltage = 4_100;
+  speed = 300;
+  gps = 1;
+}
+
+-- A row of a refusal of what is measured.
+unfoldable pub writeRefused : Measured → ℕ → ℕ → Row
+writeRefused m number place =
+    let n = givenNumbers (measuredAnswer m) in
+    refused (n .number) (n .place) number place
+
+-- A row of a refusal of a message.
+unfoldable pub readRefused : String → String → ℕ → ℕ → ℕ → Row
+readRefused callsign locator power number place =
+    let n = decodedNumbers (decoded (bytes callsign) (bytes locator) power) in
+    refused (n .number) (n .place) number place
+
 unfoldable pub benchSheet : List Row
 benchSheet =
     -- '" K1ABC" gives N 259,047,992; FN20 gives M1 22,990; with 37 dBm M is 2,942,821.'
@@ -30,6 +71,28 @@ benchSheet =
     ∷ number (locatorNumber (bytes "AR09")) 32_399
     ∷ number (locatorNumber (bytes "RA90")) 0
     ∷ number (locatorNumber (bytes "AA00")) 32_220
+    -- 'channel Q2, SK, 12,340 m, -150, 4,100 mV, 300 tenths, GPS 1 gives A 472,673, B 235,599, QQ2XFT GP99 60.'
+    ∷ number (positionNumber (measuredAt 12_340)) 472_673
+    ∷ number (sensorNumber (measuredAt 12_340)) 235_599
+    ∷ text (callsignOf (measuredAt 12_340)) "QQ2XFT"
+    ∷ text (locatorOf (measuredAt 12_340)) "GP99"
+    ∷ number (givenNumbers (measuredAnswer (measuredAt 12_340)) .power) 60
+    -- 'A 615,167 with channel 0, 0 is 0Z0AAH. 0Z0AAI is refused 12.' In ASCII, 0 is 48. RM31 33 has an odd B in its range.
+    ∷ text (callsignWith 48 48 615_167) "0Z0AAH"
+    ∷ readRefused "0Z0AAI" "RM31" 33 12 0
+    -- 'B 604,799 is RM31 33. RM31 37 is even: 11. RM31 40 is 604,801: 13.'
+    ∷ text (locatorWith 604_799) "RM31"
+    ∷ number (powerWith 604_799) 33
+    ∷ readRefused "0Z0AAH" "RM31" 37 11 0
+    ∷ number (sensorsOf (bytes "RM31") 40) 604_801
+    ∷ readRefused "0Z0AAH" "RM31" 40 13 0
+    -- 'voltage 3,000 is code 20; 4,999 is code 19; code 0 reads 4,000.'
+    ∷ number (voltageCode 3_000) 20
+    ∷ number (voltageCode 4_999) 19
+    ∷ number (millivolts 0) 4_000
+    -- 'altitude 21,359 is code 1,067; 21,360 is refused 14, place 4.'
+    ∷ number (altitudeCode 21_359) 1_067
+    ∷ writeRefused (measuredAt 21_360) 14 4
     ∷ []
 
 -- The statement: row by row, the definitions give what the sheet states.
