@@ -16,16 +16,16 @@ use Rattle.radix.proofs.Laws.{digits-in-range, digitsOf-numberOf, numberOf-digi
 use Rattle.message.specs.Character.{value, character, firstBad, setAt, callsignSets, locatorSets, legalAt, digitAt, characterAt, overPlaces, digitsFrom, charactersFrom, DigitsAt}
 use Rattle.message.proofs.CharacterLaws.{AllLegal, value-digit, character-digit, character-letter, character-space, character-value, legal-from, legal-end, digits-of-legal, characters-of-digits, legal-of-digits, digits-of-characters, length-charactersFrom}
 use Rattle.telemetry.specs.Ranges.{isFirst}
-use Rattle.telemetry.specs.Characters.{callsignRadices, callsignWith, positionOf, basicAt, firstForeign}
+use Rattle.telemetry.specs.Characters.{positionPlaces, callsignWith, positionOf, basicAt, firstForeign}
 
 -- ---- The radices
 
-pub callsign-positive : Positive callsignRadices
-unfolding Positive callsignRadices
+pub callsign-positive : Positive positionPlaces
+unfolding Positive positionPlaces
 callsign-positive = omega arith
 
-pub callsign-count : count callsignRadices ≡ 632_736
-unfolding count callsignRadices
+pub callsign-count : count positionPlaces ≡ 632_736
+unfolding count positionPlaces
 callsign-count = refl
 
 -- ---- The callsign with a number
@@ -64,14 +64,14 @@ no-space v h k = rw (character-letter h k, ne-eqb (v + 55) 32 (λ e. omega arith
 
 pub callsignWith-length : (first third a : ℕ) → length (callsignWith first third a) ≡ 6
 unfolding callsignWith
-callsignWith-length first third a = length-charactersFrom 0 (sixDigits first third (digitsOf callsignRadices a))
+callsignWith-length first third a = length-charactersFrom 0 (sixDigits first third (digitsOf positionPlaces a))
 
 module _ (first third : ℕ) (is-first : isFirst first ≡ true) (is-third : between 48 57 third ≡ true) where
   -- The six digits are in their places' sets.
-  pub six-digits-at : (a : ℕ) → DigitsAt 0 (sixDigits first third (digitsOf callsignRadices a))
-  unfolding AllPass Digits DigitsAt digitsFrom overPlaces digitsOf setAt callsignSets locatorSets callsignRadices
+  pub six-digits-at : (a : ℕ) → DigitsAt 0 (sixDigits first third (digitsOf positionPlaces a))
+  unfolding AllPass Digits DigitsAt digitsFrom overPlaces digitsOf setAt callsignSets locatorSets positionPlaces
   six-digits-at a =
-      let p = digits-in-range callsignRadices a callsign-positive in
+      let p = digits-in-range positionPlaces a callsign-positive in
       let d0 = digits-of-legal 0 (first ∷ []) (first-legal first is-first, tt) .0 in
       let d2 = digits-of-legal 2 (third ∷ []) (third-legal third is-third, tt) .0 in
       (d0, (p .0, (d2, (omega arith, (omega arith, (omega arith, tt))))))
@@ -91,15 +91,15 @@ module _ (first third : ℕ) (is-first : isFirst first ≡ true) (is-third : bet
 
   -- The number in it is A.
   pub positionOf-callsignWith : (a : ℕ) → a < 632_736 → positionOf (callsignWith first third a) ≡ a
-  unfolding callsignWith positionOf digitsOf callsignRadices
+  unfolding callsignWith positionOf digitsOf positionPlaces
   positionOf-callsignWith a h =
-      rw (digits-of-characters 0 _ (six-digits-at a)) (numberOf-digitsOf callsignRadices callsign-positive (subst (λ (n : ℕ). a < n) (sym callsign-count) h))
+      rw (digits-of-characters 0 _ (six-digits-at a)) (numberOf-digitsOf positionPlaces callsign-positive (subst (λ (n : ℕ). a < n) (sym callsign-count) h))
 
   -- Every character in it may stand at its place.
   basic-characters : (a : ℕ) → AllPass basicAt 0 (callsignWith first third a)
-  unfolding AllPass Digits basicAt callsignWith charactersFrom overPlaces characterAt digitsOf setAt callsignSets locatorSets callsignRadices
+  unfolding AllPass Digits basicAt callsignWith charactersFrom overPlaces characterAt digitsOf setAt callsignSets locatorSets positionPlaces
   basic-characters a =
-      let p = digits-in-range callsignRadices a callsign-positive in (
+      let p = digits-in-range positionPlaces a callsign-positive in (
         subst (λ (b : ℕ). isFirst b ≡ true) (sym (callsignWith-first a)) is-first,
         (
           refl,
@@ -137,8 +137,8 @@ module _ (c0 c1 c2 c3 c4 c5 : ℕ) where
   callsign = c0 ∷ c1 ∷ c2 ∷ c3 ∷ c4 ∷ c5 ∷ []
 
   module _ (legal : AllLegal 0 callsign) (basic : AllPass basicAt 0 callsign) where
-    four-digits-in : Digits callsignRadices (fourDigits (digitsFrom 0 callsign))
-    unfolding AllPass Digits DigitsAt basicAt legalAt digitsFrom overPlaces digitAt setAt callsignSets locatorSets callsignRadices
+    four-digits-in : Digits positionPlaces (fourDigits (digitsFrom 0 callsign))
+    unfolding AllPass Digits DigitsAt basicAt legalAt digitsFrom overPlaces digitAt setAt callsignSets locatorSets positionPlaces
     four-digits-in =
         let d = digits-of-legal 0 callsign legal in
         let v3 = legal-end 3 c3 (legal .1 .1 .1 .0) in
@@ -152,7 +152,7 @@ module _ (c0 c1 c2 c3 c4 c5 : ℕ) where
     callsign-again : callsignWith c0 c2 (positionOf callsign) ≡ callsign
     unfolding callsignWith positionOf digitsFrom overPlaces
     callsign-again =
-        rw (digitsOf-numberOf callsignRadices (fourDigits (digitsFrom 0 callsign)) four-digits-in) (characters-of-digits 0 callsign legal)
+        rw (digitsOf-numberOf positionPlaces (fourDigits (digitsFrom 0 callsign)) four-digits-in) (characters-of-digits 0 callsign legal)
 
 module _ (callsign : List ℕ) (six : length callsign ≡ 6) where
   -- A callsign, character by character.
@@ -178,9 +178,9 @@ module _ (callsign : List ℕ) (six : length callsign ≡ 6) where
     unfolding AllPass
     third-of = third-of-legal _ (subst (AllLegal 0) its-characters all-legal .1 .1 .0)
 
-    pub position-digits-in : Digits callsignRadices (fourDigits (digitsFrom 0 callsign))
+    pub position-digits-in : Digits positionPlaces (fourDigits (digitsFrom 0 callsign))
     position-digits-in =
-        subst (λ (l : List ℕ). Digits callsignRadices (fourDigits (digitsFrom 0 l))) (sym its-characters)
+        subst (λ (l : List ℕ). Digits positionPlaces (fourDigits (digitsFrom 0 l))) (sym its-characters)
         (four-digits-in _ _ _ _ _ _ (subst (AllLegal 0) its-characters all-legal) (subst (AllPass basicAt 0) its-characters all-basic))
 
     -- The channel's characters and A make the callsign again.

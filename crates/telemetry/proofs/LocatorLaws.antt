@@ -13,14 +13,14 @@ use Rattle.power.specs.Powers.{powerIndex, legalPower}
 use Rattle.power.proofs.Laws.{powerAt-powerIndex, powerIndex-powerAt, legal-index, legal-powerAt}
 use Rattle.message.specs.Character.{setAt, callsignSets, locatorSets, legalAt, firstBad, overPlaces, digitsFrom, DigitsAt}
 use Rattle.message.proofs.CharacterLaws.{AllLegal, digits-of-legal, characters-of-digits, legal-of-digits, digits-of-characters, length-charactersFrom}
-use Rattle.telemetry.specs.Characters.{locatorRadices, locatorWith, powerWith, sensorsOf}
+use Rattle.telemetry.specs.Characters.{sensorPlaces, locatorWith, powerWith, sensorsOf}
 
-pub locator-positive : Positive locatorRadices
-unfolding Positive locatorRadices
+pub locator-positive : Positive sensorPlaces
+unfolding Positive sensorPlaces
 locator-positive = omega arith
 
-pub locator-count : count locatorRadices ≡ 615_600
-unfolding count locatorRadices
+pub locator-count : count sensorPlaces ≡ 615_600
+unfolding count sensorPlaces
 locator-count = refl
 
 -- ---- The locator and power with a number
@@ -34,19 +34,19 @@ abbrev pub fiveDigits : List ℕ → ℕ → List ℕ
 fiveDigits d index = getD d 0 0 ∷ getD d 1 0 ∷ getD d 2 0 ∷ getD d 3 0 ∷ index ∷ []
 
 -- The four digits are in their places' sets, and the fifth is an index.
-pub four-digits-at : (b : ℕ) → DigitsAt 6 (fourDigits (digitsOf locatorRadices b))
-unfolding Digits DigitsAt digitsOf setAt callsignSets locatorSets locatorRadices
+pub four-digits-at : (b : ℕ) → DigitsAt 6 (fourDigits (digitsOf sensorPlaces b))
+unfolding Digits DigitsAt digitsOf setAt callsignSets locatorSets sensorPlaces
 four-digits-at b =
-    let s = digits-in-range locatorRadices b locator-positive in
+    let s = digits-in-range sensorPlaces b locator-positive in
     (s .0, (s .1 .0, (s .1 .1 .0, (s .1 .1 .1 .0, tt))))
 
-pub index-below : (b : ℕ) → getD (digitsOf locatorRadices b) 4 0 < 19
-unfolding Digits digitsOf locatorRadices
-index-below b = digits-in-range locatorRadices b locator-positive .1 .1 .1 .1 .0
+pub index-below : (b : ℕ) → getD (digitsOf sensorPlaces b) 4 0 < 19
+unfolding Digits digitsOf sensorPlaces
+index-below b = digits-in-range sensorPlaces b locator-positive .1 .1 .1 .1 .0
 
 pub locatorWith-length : (b : ℕ) → length (locatorWith b) ≡ 4
 unfolding locatorWith
-locatorWith-length b = length-charactersFrom 6 (fourDigits (digitsOf locatorRadices b))
+locatorWith-length b = length-charactersFrom 6 (fourDigits (digitsOf sensorPlaces b))
 
 pub locatorWith-legal : (b : ℕ) → AllLegal 6 (locatorWith b)
 unfolding locatorWith
@@ -58,10 +58,10 @@ powerWith-legal b = legal-powerAt _ (index-below b)
 
 -- The number in them is B.
 pub sensorsOf-locatorWith : (b : ℕ) → b < 615_600 → sensorsOf (locatorWith b) (powerWith b) ≡ b
-unfolding locatorWith powerWith sensorsOf digitsOf locatorRadices
+unfolding locatorWith powerWith sensorsOf digitsOf sensorPlaces
 sensorsOf-locatorWith b h =
     rw (digits-of-characters 6 _ (four-digits-at b), powerIndex-powerAt _ (index-below b))
-    (numberOf-digitsOf locatorRadices locator-positive (subst (λ (n : ℕ). b < n) (sym locator-count) h))
+    (numberOf-digitsOf sensorPlaces locator-positive (subst (λ (n : ℕ). b < n) (sym locator-count) h))
 
 -- ---- The number in a locator and power
 
@@ -70,15 +70,15 @@ module _ (c0 c1 c2 c3 power : ℕ) where
   locator = c0 ∷ c1 ∷ c2 ∷ c3 ∷ []
 
   module _ (legal : AllLegal 6 locator) (legal-power : legalPower power ≡ true) where
-    five-digits-in : Digits locatorRadices (fiveDigits (digitsFrom 6 locator) (powerIndex power))
-    unfolding Digits DigitsAt digitsFrom overPlaces setAt callsignSets locatorSets locatorRadices
+    five-digits-in : Digits sensorPlaces (fiveDigits (digitsFrom 6 locator) (powerIndex power))
+    unfolding Digits DigitsAt digitsFrom overPlaces setAt callsignSets locatorSets sensorPlaces
     five-digits-in =
         let d = digits-of-legal 6 locator legal in
         (d .0, (d .1 .0, (d .1 .1 .0, (d .1 .1 .1 .0, (legal-index power legal-power, tt)))))
 
-    its-digits : digitsOf locatorRadices (sensorsOf locator power) ≡ fiveDigits (digitsFrom 6 locator) (powerIndex power)
+    its-digits : digitsOf sensorPlaces (sensorsOf locator power) ≡ fiveDigits (digitsFrom 6 locator) (powerIndex power)
     unfolding sensorsOf
-    its-digits = digitsOf-numberOf locatorRadices _ five-digits-in
+    its-digits = digitsOf-numberOf sensorPlaces _ five-digits-in
 
     locator-again : locatorWith (sensorsOf locator power) ≡ locator
     unfolding locatorWith digitsFrom overPlaces
@@ -97,9 +97,9 @@ module _ (locator : List ℕ) (power : ℕ) (four : length locator ≡ 4) (legal
   each-legal : AllLegal 6 (getD locator 0 0 ∷ getD locator 1 0 ∷ getD locator 2 0 ∷ getD locator 3 0 ∷ [])
   each-legal = subst (AllLegal 6) its-characters (all-pass legalAt 6 locator (omega arith))
 
-  pub sensor-digits-in : Digits locatorRadices (fiveDigits (digitsFrom 6 locator) (powerIndex power))
+  pub sensor-digits-in : Digits sensorPlaces (fiveDigits (digitsFrom 6 locator) (powerIndex power))
   sensor-digits-in =
-      subst (λ (l : List ℕ). Digits locatorRadices (fiveDigits (digitsFrom 6 l) (powerIndex power))) (sym its-characters)
+      subst (λ (l : List ℕ). Digits sensorPlaces (fiveDigits (digitsFrom 6 l) (powerIndex power))) (sym its-characters)
       (five-digits-in _ _ _ _ power each-legal legal-power)
 
   -- B makes the locator and the power again.

@@ -16,7 +16,7 @@ use Rattle.message.specs.declared.Given.{Given}
 use Rattle.message.proofs.AnswerLaws.{right-lengths, legal-whole, packed-word}
 use Rattle.telemetry.specs.Numbers.{positionNumber, sensorNumber, readingFrom, readingOf}
 use Rattle.telemetry.specs.Characters.{positionOf, powerWith, sensorsOf}
-use Rattle.telemetry.specs.Answer.{measuredAnswer, callsignOf, locatorOf, written, callsignAfter, locatorAfter, numbersAnswer, messageAnswer, decoded}
+use Rattle.telemetry.specs.Answer.{measuredAnswer, callsignFrom, locatorFrom, written, callsignWritten, locatorWritten, numbersAnswer, messageAnswer, decoded}
 use Rattle.telemetry.specs.RoundTrip.{quantised, inTenths, WritesAs, ReadsBack, WritesBack, IsRefused, NeverWritten, RefusesExactly}
 use Rattle.telemetry.specs.declared.Measured.{Measured}
 use Rattle.telemetry.specs.declared.Reading.{Reading}
@@ -31,20 +31,20 @@ use Rattle.telemetry.proofs.AnswerLaws.{measured-power, range-of-writte
 
 module _ (m : Measured) (r : InRange m) where
   -- What is written is a message of legal characters and power.
-  written-packed : packed (callsignOf m) (locatorOf m) (powerWith (sensorNumber m))
-      ≡ Packed.Word (wordOf (callsignOf m) (locatorOf m) (powerWith (sensorNumber m)))
-  unfolding callsignOf locatorOf
+  written-packed : packed (callsignFrom m) (locatorFrom m) (powerWith (sensorNumber m))
+      ≡ Packed.Word (wordOf (callsignFrom m) (locatorFrom m) (powerWith (sensorNumber m)))
+  unfolding callsignFrom locatorFrom
   written-packed =
       let six = callsignWith-length (m .first) (m .third) (positionNumber m) in
       let four = locatorWith-length (sensorNumber m) in
-      packed-word _ _ _ (right-lengths (callsignOf m) (locatorOf m) six four)
+      packed-word _ _ _ (right-lengths (callsignFrom m) (locatorFrom m) six four)
       (legal-whole _ _ six four (callsignWith-legal _ _ (r .first) (r .third) (positionNumber m)) (locatorWith-legal (sensorNumber m)))
       (powerWith-legal (sensorNumber m))
 
   -- Its channel and numbers are those that were written.
-  written-numbers : messageAnswer (callsignOf m) (locatorOf m) (powerWith (sensorNumber m))
+  written-numbers : messageAnswer (callsignFrom m) (locatorFrom m) (powerWith (sensorNumber m))
       ≡ numbersAnswer (m .first) (m .third) (positionNumber m) (sensorNumber m)
-  unfolding callsignOf locatorOf
+  unfolding callsignFrom locatorFrom
   written-numbers =
       let a = positionNumber m in
       let b = sensorNumber m in
@@ -56,14 +56,14 @@ module _ (m : Measured) (r : InRange m) where
         sensorsOf-locatorWith b (omega (arith, sensor-below m r)),
       )
 
-  reads-quantised : decoded (callsignOf m) (locatorOf m) (powerWith (sensorNumber m)) ≡ Decoded.Telemetry (quantised m)
+  reads-quantised : decoded (callsignFrom m) (locatorFrom m) (powerWith (sensorNumber m)) ≡ Decoded.Telemetry (quantised m)
   reads-quantised =
       decoded-message _ _ _ _ written-packed ∙ written-numbers
       ∙ numbers-reading _ _ _ _ (sensor-odd m r) (position-below m r) (sensor-below m r)
       ∙ ap Decoded.Telemetry (readingOf-numbers m r)
 
 pub read-write : (m : Measured) (power : ℕ) → measuredAnswer m ≡ Given.Power power
-    → decoded (callsignOf m) (locatorOf m) power ≡ Decoded.Telemetry (quantised m)
+    → decoded (callsignFrom m) (locatorFrom m) power ≡ Decoded.Telemetry (quantised m)
 read-write m power e =
     let w = range-of-written m power e in
     rw (w .1) (reads-quantised m (in-range m (w .0)))
@@ -72,7 +72,7 @@ read-write m power e =
 
 writes-again : (callsign locator : List ℕ) (power : ℕ) (r : Reading) → Basic callsign locator power r
     → WritesAs (inTenths r) callsign locator power
-unfolding callsignOf locatorOf inTenths readingOf readingFrom
+unfolding callsignFrom locatorFrom inTenths readingOf readingFrom
 writes-again callsign locator power r k =
     let l = k .legal in
     let n = k .numbers in
@@ -113,16 +113,16 @@ module _ (callsign locator : List ℕ) (m : Measured) where
   abbrev pub WritePromised : Given → List ℕ → List ℕ → Type 0
   WritePromised answer its-callsign its-locator =
       (answer ≡ written callsign locator m)
-      × ((its-callsign ≡ callsignAfter callsign locator m)
-      × ((its-locator ≡ locatorAfter callsign locator m) × ReadsBack answer m its-callsign its-locator))
+      × ((its-callsign ≡ callsignWritten callsign locator m)
+      × ((its-locator ≡ locatorWritten callsign locator m) × ReadsBack answer m its-callsign its-locator))
 
   pub write-refused : (f : Refusal) → written callsign locator m ≡ Given.Refused f → WritePromised (Given.Refused f) callsign locator
-  unfolding callsignAfter locatorAfter contentAfter
+  unfolding callsignWritten locatorWritten contentAfter
   write-refused f e = (sym e, (rw e, (rw e, tt)))
 
   pub write-done : (power : ℕ) → rightLengths (length callsign) (length locator) ≡ true → measuredAnswer m ≡ Given.Power power
-      → WritePromised (Given.Power power) (callsignOf m) (locatorOf m)
-  unfolding callsignAfter locatorAfter contentAfter
+      → WritePromised (Given.Power power) (callsignFrom m) (locatorFrom m)
+  unfolding callsignWritten locatorWritten contentAfter
   write-done power right done =
       let e = written-measured callsign locator m right ∙ done in
       (sym e, (rw e, (rw e, read-write m power done)))

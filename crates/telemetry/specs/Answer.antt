@@ -24,11 +24,13 @@ measuredAnswer m =
     cond (ltb (firstOutOfRange m) 9) (Given.Refused (refusal outOfRange (firstOutOfRange m)))
     (Given.Power (powerWith (sensorNumber m)))
 
-unfoldable pub callsignOf : Measured → List ℕ
-callsignOf m = callsignWith (m .first) (m .third) (positionNumber m)
+-- The callsign of the message.
+unfoldable pub callsignFrom : Measured → List ℕ
+callsignFrom m = callsignWith (m .first) (m .third) (positionNumber m)
 
-unfoldable pub locatorOf : Measured → List ℕ
-locatorOf m = locatorWith (sensorNumber m)
+-- The locator of the message.
+unfoldable pub locatorFrom : Measured → List ℕ
+locatorFrom m = locatorWith (sensorNumber m)
 
 -- The answer, given what the lent callsign and locator hold.
 unfoldable pub written : List ℕ → List ℕ → Measured → Given
@@ -36,12 +38,12 @@ written callsign locator m =
     cond (not (rightLengths (length callsign) (length locator))) (Given.Refused (refusal wrongLength 0)) (measuredAnswer m)
 
 -- What the lent callsign then holds.
-unfoldable pub callsignAfter : List ℕ → List ℕ → Measured → List ℕ
-callsignAfter callsign locator m = contentAfter (written callsign locator m) callsign (callsignOf m)
+unfoldable pub callsignWritten : List ℕ → List ℕ → Measured → List ℕ
+callsignWritten callsign locator m = contentAfter (written callsign locator m) callsign (callsignFrom m)
 
 -- What the lent locator then holds.
-unfoldable pub locatorAfter : List ℕ → List ℕ → Measured → List ℕ
-locatorAfter callsign locator m = contentAfter (written callsign locator m) locator (locatorOf m)
+unfoldable pub locatorWritten : List ℕ → List ℕ → Measured → List ℕ
+locatorWritten callsign locator m = contentAfter (written callsign locator m) locator (locatorFrom m)
 
 -- ---- Reading: "telemetry reading 1, 2, 3, 10, 11, 12, 13"
 

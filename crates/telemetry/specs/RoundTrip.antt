@@ -7,7 +7,7 @@ use mathlib.Core.List.{List}
 use lib.IntN.{pos, _*ℤ_}
 use Rattle.message.specs.declared.Given.{Given}
 use Rattle.telemetry.specs.Codes.{altitudeCode, temperatureCode, voltageCode, speedCode, metres, degrees, millivolts, knots}
-use Rattle.telemetry.specs.Answer.{measuredAnswer, callsignOf, locatorOf, decoded}
+use Rattle.telemetry.specs.Answer.{measuredAnswer, callsignFrom, locatorFrom, decoded}
 use Rattle.telemetry.specs.declared.Measured.{Measured}
 use Rattle.telemetry.specs.declared.Reading.{Reading}
 use Rattle.telemetry.specs.declared.Decoded.{Decoded}
@@ -43,8 +43,8 @@ inTenths r = record {
 -- This message is written from what was measured.
 pub record WritesAs (m : Measured) (callsign locator : List ℕ) (power : ℕ) : Type 0 where
   pub its-power : measuredAnswer m ≡ Given.Power power
-  pub its-callsign : callsignOf m ≡ callsign
-  pub its-locator : locatorOf m ≡ locator
+  pub its-callsign : callsignFrom m ≡ callsign
+  pub its-locator : locatorFrom m ≡ locator
 
 -- What was written reads back, quantised: the callsign and locator with the answer's power, where it has one.
 abbrev pub ReadsBack : Given → Measured → List ℕ → List ℕ → Type 0

@@ -12,7 +12,7 @@ use message::character::read_digits;
 use message::character::write_characters;
 
 // For places 1, 3, 4 and 5.
-const CALLSIGN_RADICES: [u64; 4] = [36, 26, 26, 26];
+const POSITION_PLACES: [u64; 4] = [36, 26, 26, 26];
 
 // Writes the callsign with the channel's characters and the number.
 pub(crate) fn write_callsign(first: u8, third: u8, position: u64, callsign: &mut [u8])
@@ -22,7 +22,7 @@ pub(crate) fn write_callsign(first: u8, third: u8, position: u64, callsign: &mut
     ensures { λ _. ⌜ now (callsign .exit) ≡ callsignWith first third position ⌝ }
 {
     let mut p = [0u64; 4];
-    radix::unpack(position, &CALLSIGN_RADICES, &mut p);
+    radix::unpack(position, &POSITION_PLACES, &mut p);
     let digits = [
         digit_at(0, first),
         p[0],
@@ -69,7 +69,7 @@ pub(crate) fn position_of(callsign: &[u8]) -> u64
     let mut digits = [0u64; 6];
     read_digits(0, callsign, &mut digits);
     radix::pack(
-        &CALLSIGN_RADICES,
+        &POSITION_PLACES,
         &[digits[1], digits[3], digits[4], digits[5]],
     )
 }

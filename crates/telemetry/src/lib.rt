@@ -5,7 +5,7 @@ mod locator;
 mod range;
 
 ghost use mathlib.Core.Path.{_≡_};
-ghost use Rattle.telemetry.specs.Answer.{written, callsignAfter, locatorAfter, decoded};
+ghost use Rattle.telemetry.specs.Answer.{written, callsignWritten, locatorWritten, decoded};
 ghost use Rattle.telemetry.specs.RoundTrip.{ReadsBack, WritesBack, RefusesExactly};
 use message::Given;
 use message::Packed;
@@ -50,8 +50,8 @@ pub enum Decoded {
 // The message of what was measured: its callsign and locator are written, its power is the answer.
 pub fn write(measured: Measured, callsign: &mut [u8], locator: &mut [u8]) -> Given
     ensures answer { λ r. ⌜ r ≡ written (now (callsign .entry)) (now (locator .entry)) measured ⌝ }
-    ensures callsign_after { λ _. ⌜ now (callsign .exit) ≡ callsignAfter (now (callsign .entry)) (now (locator .entry)) measured ⌝ }
-    ensures locator_after { λ _. ⌜ now (locator .exit) ≡ locatorAfter (now (callsign .entry)) (now (locator .entry)) measured ⌝ }
+    ensures callsign_after { λ _. ⌜ now (callsign .exit) ≡ callsignWritten (now (callsign .entry)) (now (locator .entry)) measured ⌝ }
+    ensures locator_after { λ _. ⌜ now (locator .exit) ≡ locatorWritten (now (callsign .entry)) (now (locator .entry)) measured ⌝ }
     ensures reads_back { λ r. ⌜ ReadsBack r measured (now (callsign .exit)) (now (locator .exit)) ⌝ }
 {
     if !message::right_lengths(callsign.len(), locator.len()) {

@@ -9,7 +9,7 @@ use message::character::read_digits;
 use message::character::write_characters;
 
 // For places 6 to 9 and the power's index.
-const LOCATOR_RADICES: [u64; 5] = [18, 18, 10, 10, 19];
+const SENSOR_PLACES: [u64; 5] = [18, 18, 10, 10, 19];
 
 // Writes the locator with the number; its power is returned.
 pub(crate) fn write_locator(sensors: u64, locator: &mut [u8]) -> u32
@@ -18,7 +18,7 @@ pub(crate) fn write_locator(sensors: u64, locator: &mut [u8]) -> u32
     ensures its_locator { λ _. ⌜ now (locator .exit) ≡ locatorWith sensors ⌝ }
 {
     let mut s = [0u64; 5];
-    radix::unpack(sensors, &LOCATOR_RADICES, &mut s);
+    radix::unpack(sensors, &SENSOR_PLACES, &mut s);
     write_characters(6, &[s[0], s[1], s[2], s[3]], locator);
     power::power_at(s[4] as u32)
 }
@@ -34,7 +34,7 @@ pub(crate) fn sensors_of(locator: &[u8], power: u32) -> u64
     read_digits(6, locator, &mut values);
     let index = power::index_of(power) as u64;
     radix::pack(
-        &LOCATOR_RADICES,
+        &SENSOR_PLACES,
         &[values[0], values[1], values[2], values[3], index],
     )
 }

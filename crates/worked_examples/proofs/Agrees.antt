@@ -12,10 +12,10 @@ use Rattle.message.specs.Character.{value, character, callsignSets, locatorSets
 use Rattle.message.specs.Word.{callsignRadices, callsignNumber, locatorNumberFrom, locatorNumber, lowerNumber, wordFrom, wordOf}
 use Rattle.message.specs.Answer.{rightLengths, packed, givenNumbers}
 use Rattle.telemetry.specs.Ranges.{isFirst, temperatureInRange, inRanges, firstOutOfRange}
-use Rattle.telemetry.specs.Codes.{altitudeCode, temperatureCode, voltageCode, speedCode, metres, degrees, millivolts, knots}
-use Rattle.telemetry.specs.Numbers.{positionRadices, positionDigits, positionNumber, sensorRadices, sensorDigits, sensorNumber, readingFrom, readingOf}
-use Rattle.telemetry.specs.Characters.{callsignRadices as placesRadices, callsignWith, positionOf, locatorRadices, locatorWith, powerWith, sensorsOf, basicAt, firstForeign}
-use Rattle.telemetry.specs.Answer.{measuredAnswer, callsignOf, locatorOf, numbersAnswer, messageAnswer, ifPacked, decoded, decodedNumbers}
+use Rattle.telemetry.specs.Codes.{altitudeCode, temperatureCode, voltageCode, speedCode, millivolts}
+use Rattle.telemetry.specs.Numbers.{positionRadices, positionDigits, positionNumber, sensorRadices, sensorDigits, sensorNumber}
+use Rattle.telemetry.specs.Characters.{positionPlaces, callsignWith, positionOf, sensorPlaces, locatorWith, powerWith, sensorsOf, basicAt, firstForeign}
+use Rattle.telemetry.specs.Answer.{measuredAnswer, callsignFrom, locatorFrom, numbersAnswer, messageAnswer, ifPacked, decoded, decodedNumbers}
 use Rattle.worked_examples.specs.BenchSheet.{Row, bytes, number, text, refused, measuredAt, writeRefused, readRefused, benchSheet, Agrees}
 
 abbrev same : Row → Bool
@@ -33,8 +33,8 @@ pub bench-sheet-agrees : Agrees benchSheet
 unfolding sameList firstFailing firstFalse count numberOf numberFrom digitsOf powers indexIn powerIndex powerAt legalPower value character
     callsignSets locatorSets setAt legalAt digitAt characterAt overPlaces digitsFrom charactersFrom callsignRadices callsignNumber
     locatorNumberFrom locatorNumber lowerNumber wordFrom wordOf rightLengths packed givenNumbers isFirst temperatureInRange inRanges
-    firstOutOfRange altitudeCode temperatureCode voltageCode speedCode metres degrees millivolts knots positionRadices positionDigits
-    positionNumber sensorRadices sensorDigits sensorNumber readingFrom readingOf placesRadices callsignWith positionOf locatorRadices
-    locatorWith powerWith sensorsOf basicAt firstForeign measuredAnswer callsignOf locatorOf numbersAnswer messageAnswer ifPacked decoded
+    firstOutOfRange altitudeCode temperatureCode voltageCode speedCode millivolts positionRadices positionDigits
+    positionNumber sensorRadices sensorDigits sensorNumber positionPlaces callsignWith positionOf sensorPlaces
+    locatorWith powerWith sensorsOf basicAt firstForeign measuredAnswer callsignFrom locatorFrom numbersAnswer messageAnswer ifPacked decoded
     decodedNumbers bytes number text refused measuredAt writeRefused readRefused benchSheet
 bench-sheet-agrees = agree benchSheet refl

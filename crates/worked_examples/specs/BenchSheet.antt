@@ -10,7 +10,7 @@ use Rattle.message.specs.Answer.{givenNumbers}
 use Rattle.telemetry.specs.Codes.{altitudeCode, voltageCode, millivolts}
 use Rattle.telemetry.specs.Numbers.{positionNumber, sensorNumber}
 use Rattle.telemetry.specs.Characters.{callsignWith, locatorWith, powerWith, sensorsOf}
-use Rattle.telemetry.specs.Answer.{measuredAnswer, callsignOf, locatorOf, decoded, decodedNumbers}
+use Rattle.telemetry.specs.Answer.{measuredAnswer, callsignFrom, locatorFrom, decoded, decodedNumbers}
 use Rattle.telemetry.specs.declared.Measured.{Measured}
 
 -- The bytes of a text in ASCII.
@@ -74,8 +74,8 @@ benchSheet =
     -- 'channel Q2, SK, 12,340 m, -150, 4,100 mV, 300 tenths, GPS 1 gives A 472,673, B 235,599, QQ2XFT GP99 60.'
     ∷ number (positionNumber (measuredAt 12_340)) 472_673
     ∷ number (sensorNumber (measuredAt 12_340)) 235_599
-    ∷ text (callsignOf (measuredAt 12_340)) "QQ2XFT"
-    ∷ text (locatorOf (measuredAt 12_340)) "GP99"
+    ∷ text (callsignFrom (measuredAt 12_340)) "QQ2XFT"
+    ∷ text (locatorFrom (measuredAt 12_340)) "GP99"
     ∷ number (givenNumbers (measuredAnswer (measuredAt 12_340)) .power) 60
     -- 'A 615,167 with channel 0, 0 is 0Z0AAH. 0Z0AAI is refused 12.' In ASCII, 0 is 48. RM31 33 has an odd B in its range.
     ∷ text (callsignWith 48 48 615_167) "0Z0AAH"

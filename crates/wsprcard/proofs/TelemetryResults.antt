@@ -5,7 +5,7 @@ use Prim.Native.Nat.{ℕ}
 use mathlib.Core.List.{List}
 use Rattle.message.specs.Answer.{givenNumbers}
 use Rattle.message.specs.declared.Given.{Given}
-use Rattle.telemetry.specs.Answer.{written, callsignAfter, locatorAfter, decoded, decodedNumbers}
+use Rattle.telemetry.specs.Answer.{written, callsignWritten, locatorWritten, decoded, decodedNumbers}
 use Rattle.telemetry.specs.RoundTrip.{ReadsBack, WritesBack, IsRefused}
 use Rattle.telemetry.specs.declared.Measured.{Measured}
 use Rattle.telemetry.specs.declared.Decoded.{Decoded}
@@ -18,8 +18,8 @@ use Rattle.wsprcard.specs.declared.U4bReading.{U4bReading}
 pub write-results : (callsign locator : List ℕ) (m : Measured) (answer : Given) (its-callsign its-locator : List ℕ) (r : WsprMessage)
     → r ≡ messageResult (givenNumbers answer) → WritePromised callsign locator m answer its-callsign its-locator
     → (r ≡ messageResult (givenNumbers (written callsign locator m)))
-    × ((its-callsign ≡ callsignAfter callsign locator m)
-    × ((its-locator ≡ locatorAfter callsign locator m) × TelemetryReadsBack r m its-callsign its-locator))
+    × ((its-callsign ≡ callsignWritten callsign locator m)
+    × ((its-locator ≡ locatorWritten callsign locator m) × TelemetryReadsBack r m its-callsign its-locator))
 unfolding messageResult
 write-results callsign locator m answer its-callsign its-locator r result (e, (call, (loc, back))) =
     let answered : givenNumbers answer .number ≡ 0 → answer ≡ Given.Power (givenNumbers answer .power) = rw e (written-answered callsign locator m) in

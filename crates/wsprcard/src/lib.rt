@@ -3,7 +3,7 @@
 ghost use mathlib.Core.Path.{_≡_};
 ghost use Rattle.message.specs.Answer.{packed, unpacked, callsignAfter, locatorAfter, packedNumbers, givenNumbers, wordGiven, wordRefused};
 ghost use Rattle.frame.specs.Answer.{wordWritten, messageWritten, frameAfterWord, frameAfterMessage, wordRead, messageRead, callsignRead, locatorRead, readNumbers};
-ghost use Rattle.telemetry.specs.Answer.{written, decoded, decodedNumbers, callsignAfter as callsignWritten, locatorAfter as locatorWritten};
+ghost use Rattle.telemetry.specs.Answer.{written, decoded, decodedNumbers, callsignWritten, locatorWritten};
 ghost use Rattle.wsprcard.specs.Results.{writtenResult, wordResult, messageResult, readingResult, measuredFrom, PackedReadsBack, MessagePacksBack, UnpackRefusedExactly, FrameReadsAsWord, FrameReadsAsMessage, WordWritesFrame, FrameRefusedExactly, NoWordExactly, MessageWritesFrame, MessageFrameRefusedExactly, TelemetryReadsBack, TelemetryWritesBack, TelemetryRefusedExactly};
 use frame::Read;
 use frame::Written;

@@ -9,7 +9,7 @@ use borrow.Author.Needs.{needs}
 use borrow.Author.Tests.{not-true, not-false}
 use Rattle.message.specs.Answer.{rightLengths}
 use Rattle.message.proofs.AnswerLaws.{lengths-of-right}
-use Rattle.telemetry.specs.Answer.{callsignOf, locatorOf}
+use Rattle.telemetry.specs.Answer.{callsignFrom, locatorFrom}
 use Rattle.telemetry.proofs.RangeLaws.{InRange, in-range, none-out-of-range}
 use Rattle.telemetry.proofs.AnswerLaws.{measured-range, measured-power, written-length, written-measured}
 use Rattle.telemetry.proofs.RoundTripLaws.{write-refused, write-done}
@@ -77,7 +77,7 @@ same-length-2 : tie.Need-same-length-2
 same-length-2 c = search needs
 
 returns-3 : tie.Need-returns-3
-unfolding callsignOf locatorOf
+unfolding callsignFrom locatorFrom
 returns-3 c =
     let l = c .before .before in
     let w = l .before .before .before .before in

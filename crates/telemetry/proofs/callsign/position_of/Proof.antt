@@ -7,7 +7,7 @@ use native.Mathlib.Omega.{arith}
 use mathlib.Core.List.{List}
 use borrow.Author.Needs.{needs}
 use Rattle.radix.specs.Numeral.{numberOf}
-use Rattle.telemetry.specs.Characters.{callsignRadices, positionOf}
+use Rattle.telemetry.specs.Characters.{positionPlaces, positionOf}
 use Rattle.telemetry.proofs.CallsignLaws.{fourDigits, callsign-count, position-digits-in}
 use borrow.Author.Needs.{needs}
 use Rattle.telemetry.proofs.callsign.position_of.Statement.{statement}
@@ -40,17 +40,17 @@ slice-aggregate-pack-2 : tie.Need-slice-aggregate-pack-2
 slice-aggregate-pack-2 c = search needs
 
 pack-requires : tie.Need-pack-requires
-unfolding callsignRadices
+unfolding positionPlaces
 pack-requires c κs =
     let r = c .before .before .before in
     let a = r .before .before .before in
     (rw (r .read-digits .ensures) (position-digits-in (a .args .callsign .now) (a .pre .0) (a .pre .1 .0) (a .pre .1 .1)), omega (arith, callsign-count))
 
 returns : tie.Need-returns
-unfolding callsignRadices positionOf
+unfolding positionPlaces positionOf
 returns c =
     let r = c .before .before .before .before in
-    c .pack .ensures ∙ ap (λ (d : List ℕ). numberOf callsignRadices (fourDigits d)) (r .read-digits .ensures)
+    c .pack .ensures ∙ ap (λ (d : List ℕ). numberOf positionPlaces (fourDigits d)) (r .read-digits .ensures)
 
 pub position-of-spec : {M : Type 1} → statement M
 position-of-spec =

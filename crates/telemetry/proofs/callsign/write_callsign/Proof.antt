@@ -8,7 +8,7 @@ use mathlib.Core.List.{List}
 use borrow.Author.Needs.{needs}
 use Rattle.radix.specs.Numeral.{digitsOf}
 use Rattle.message.specs.Character.{charactersFrom}
-use Rattle.telemetry.specs.Characters.{callsignRadices, callsignWith}
+use Rattle.telemetry.specs.Characters.{positionPlaces, callsignWith}
 use Rattle.telemetry.proofs.CallsignLaws.{sixDigits, callsign-positive, six-digits-at}
 use borrow.Author.Needs.{needs}
 use Rattle.telemetry.proofs.callsign.write_callsign.Statement.{statement}
@@ -17,8 +17,8 @@ use Rattle.message.proofs.character.digit_at.Reads as digit-at-reads
 use Rattle.message.proofs.character.write_characters.Reads as write-characters-reads
 use Rattle.radix.proofs.unpack.Reads as unpack-reads
 
-its-digits : (c : tie.After-unpack) → c .unpack .last .1 .1 .0 ≡ digitsOf callsignRadices (c .before .before .before .before .args .position)
-unfolding callsignRadices
+its-digits : (c : tie.After-unpack) → c .unpack .last .1 .1 .0 ≡ digitsOf positionPlaces (c .before .before .before .before .args .position)
+unfolding positionPlaces
 its-digits c = c .unpack .ensures .1
 
 slice-aggregate-unpack : tie.Need-slice-aggregate-unpack
@@ -28,7 +28,7 @@ slice-aggregate-unpack-2 : tie.Need-slice-aggregate-unpack-2
 slice-aggregate-unpack-2 c = search needs
 
 unpack-requires : tie.Need-unpack-requires
-unfolding callsignRadices
+unfolding positionPlaces
 unpack-requires c κs = (callsign-positive, refl)
 
 digit-at-requires : tie.Need-digit-at-requires

@@ -4,7 +4,7 @@
 use mathlib.Core.Path.{_∙_}
 use native.Mathlib.Omega.{arith}
 use borrow.Author.Needs.{needs}
-use Rattle.telemetry.specs.Characters.{locatorRadices, sensorsOf}
+use Rattle.telemetry.specs.Characters.{sensorPlaces, sensorsOf}
 use Rattle.telemetry.proofs.LocatorLaws.{locator-count, sensor-digits-in}
 use borrow.Author.Needs.{needs}
 use Rattle.telemetry.proofs.locator.sensors_of.Statement.{statement}
@@ -44,7 +44,7 @@ slice-aggregate-pack-2 : tie.Need-slice-aggregate-pack-2
 slice-aggregate-pack-2 c = search needs
 
 pack-requires : tie.Need-pack-requires
-unfolding locatorRadices
+unfolding sensorPlaces
 pack-requires c κs =
     let i = c .before .before in
     let r = i .before .before in
@@ -52,7 +52,7 @@ pack-requires c κs =
     (rw (r .read-digits .ensures, i .index-of .ensures) (sensor-digits-in (a .args .locator .now) (a .args .power) (a .pre .0) (a .pre .1 .0) (a .pre .1 .1)), omega (arith, locator-count))
 
 returns : tie.Need-returns
-unfolding locatorRadices sensorsOf
+unfolding sensorPlaces sensorsOf
 returns c =
     let i = c .before .before .before in
     let r = i .before .before in

@@ -10,7 +10,7 @@ use Rattle.radix.specs.Numeral.{digitsOf}
 use lib.ListN.{getD}
 use Rattle.power.specs.Powers.{powerAt}
 use Rattle.message.specs.Character.{charactersFrom}
-use Rattle.telemetry.specs.Characters.{locatorRadices, locatorWith, powerWith}
+use Rattle.telemetry.specs.Characters.{sensorPlaces, locatorWith, powerWith}
 use Rattle.telemetry.proofs.LocatorLaws.{fourDigits, locator-positive, four-digits-at, index-below}
 use borrow.Author.Needs.{needs}
 use Rattle.telemetry.proofs.locator.write_locator.Statement.{statement}
@@ -19,8 +19,8 @@ use Rattle.message.proofs.character.write_characters.Reads as write-characters-
 use Rattle.power.proofs.power_at.Reads as power-at-reads
 use Rattle.radix.proofs.unpack.Reads as unpack-reads
 
-its-digits : (c : tie.After-unpack) → c .unpack .last .1 .1 .0 ≡ digitsOf locatorRadices (c .before .before .before .before .args .sensors)
-unfolding locatorRadices
+its-digits : (c : tie.After-unpack) → c .unpack .last .1 .1 .0 ≡ digitsOf sensorPlaces (c .before .before .before .before .args .sensors)
+unfolding sensorPlaces
 its-digits c = c .unpack .ensures .1
 
 slice-aggregate-unpack : tie.Need-slice-aggregate-unpack
@@ -30,7 +30,7 @@ slice-aggregate-unpack-2 : tie.Need-slice-aggregate-unpack-2
 slice-aggregate-unpack-2 c = search needs
 
 unpack-requires : tie.Need-unpack-requires
-unfolding locatorRadices
+unfolding sensorPlaces
 unpack-requires c κs = (locator-positive, refl)
 
 array-read-power-at : tie.Need-array-read-power-at
