@@ -1,5 +1,4 @@
--- Laws of lists by their places: a list by a rule, the first place where a test fails, the first test that is false, and whether two
--- lists are the same.
+-- Laws of lists by their places: a list by a rule, the first place where a test fails, and whether two lists are the same.
 use mathlib.Core.Path.{_≡_, refl, sym, ap, _∙_}
 use Prim.Native.Nat.{ℕ, zero, suc, _+_, _≤_, _<_}
 use native.Mathlib.Nat.{add-suc, add-zero, suc-add, zero-add}
@@ -11,7 +10,7 @@ use lib.Dec.{eqb}
 use lib.ListN.{length, getD, drop, length-drop, drop-of-length-le}
 use lib.Seq.{drop-cons, drop-drop, getD-drop, ext-getD}
 use borrow.Author.Tests.{eqb-true, eq-eqb}
-use Rattle.basics.specs.Lists.{tabulate, firstFailing, firstFalse, sameList}
+use Rattle.basics.specs.Lists.{tabulate, firstFailing, sameList}
 use Rattle.basics.proofs.Choice.{both-true, by-test}
 
 -- ---- A list from an index on
@@ -51,22 +50,34 @@ by-rule n f xs e rule =
 
 -- ---- The first place where a test fails
 
-module _ (test : ℕ → ℕ → Bool) where
+module _ {A : Type 0} (test : ℕ → A → Bool) where
   -- Every element from a place on passes.
-  unfoldable pub AllPass : ℕ → List ℕ → Type 0
+  unfoldable pub AllPass : ℕ → List A → Type 0
   AllPass place [] = Unit
   AllPass place (x ∷ xs) = (test place x ≡ true) × AllPass (suc place) xs
 
-  first-passed : (place x : ℕ) (xs : List ℕ) → test place x ≡ true → firstFailing test place (x ∷ xs) ≡ firstFailing test (suc place) xs
+  nothing-fails : (place : ℕ) → firstFailing test place [] ≡ place
+  unfolding firstFailing
+  nothing-fails place = refl
+
+  first-passed : (place : ℕ) (x : A) (xs : List A) → test place x ≡ true → firstFailing test place (x ∷ xs) ≡ firstFailing test (suc place) xs
   unfolding firstFailing
   first-passed place x xs e = rw e
 
-  first-failed : (place x : ℕ) (xs : List ℕ) → test place x ≡ false → firstFailing test place (x ∷ xs) ≡ place
+  first-failed : (place : ℕ) (x : A) (xs : List A) → test place x ≡ false → firstFailing test place (x ∷ xs) ≡ place
   unfolding firstFailing
   first-failed place x xs e = rw e
 
+  -- The place is at most one past the last.
+  pub firstFailing-end : (place : ℕ) (xs : List A) → firstFailing test place xs ≤ place + length xs
+  firstFailing-end place [] = omega (arith, nothing-fails place)
+  firstFailing-end place (x ∷ xs) =
+      by-test (test place x)
+      (λ e. omega (arith, first-passed place x xs e, firstFailing-end (suc place) xs))
+      (λ e. omega (arith, first-failed place x xs e))
+
   -- None fails exactly where all pass.
-  pub all-pass : (place : ℕ) (xs : List ℕ) → place + length xs ≤ firstFailing test place xs → AllPass place xs
+  pub all-pass : (place : ℕ) (xs : List A) → place + length xs ≤ firstFailing test place xs → AllPass place xs
   unfolding AllPass
   all-pass place [] h = tt
   all-pass place (x ∷ xs) h =
@@ -74,38 +85,38 @@ module _ (test : ℕ → ℕ → Bool) where
       (λ e. (e, all-pass (suc place) xs (omega (arith, first-passed place x xs e))))
       (λ e. absurd (omega (arith, first-failed place x xs e)))
 
-  pub none-fails : (place : ℕ) (xs : List ℕ) → AllPass place xs → firstFailing test place xs ≡ place + length xs
+  pub none-fails : (place : ℕ) (xs : List A) → AllPass place xs → firstFailing test place xs ≡ place + length xs
   unfolding firstFailing AllPass
   none-fails place [] h = omega arith
   none-fails place (x ∷ xs) h = rw (h .0) (none-fails (suc place) xs (h .1) ∙ omega arith)
 
   -- All pass exactly where the test holds at every index.
-  pass-at : (place : ℕ) (xs : List ℕ) → AllPass place xs → (i : ℕ) → i < length xs → test (place + i) (getD xs i 0) ≡ true
+  pass-at : (d : A) (place : ℕ) (xs : List A) → AllPass place xs → (i : ℕ) → i < length xs → test (place + i) (getD xs i d) ≡ true
   unfolding AllPass
-  pass-at place [] h i k = absurd (omega arith)
-  pass-at place (x ∷ xs) h zero k = rw (add-zero place) (h .0)
-  pass-at place (x ∷ xs) h (suc i) k = rw (add-suc place i, ← suc-add place i) (pass-at (suc place) xs (h .1) i (omega arith))
+  pass-at d place [] h i k = absurd (omega arith)
+  pass-at d place (x ∷ xs) h zero k = rw (add-zero place) (h .0)
+  pass-at d place (x ∷ xs) h (suc i) k = rw (add-suc place i, ← suc-add place i) (pass-at d (suc place) xs (h .1) i (omega arith))
 
-  pass-each : (place : ℕ) (xs : List ℕ) → ((i : ℕ) → i < length xs → test (place + i) (getD xs i 0) ≡ true) → AllPass place xs
+  pass-each : (d : A) (place : ℕ) (xs : List A) → ((i : ℕ) → i < length xs → test (place + i) (getD xs i d) ≡ true) → AllPass place xs
   unfolding AllPass
-  pass-each place [] h = tt
-  pass-each place (x ∷ xs) h =
-      (rw (add-zero place) at (h zero (omega arith)), pass-each (suc place) xs (λ i k. rw (suc-add place i, ← add-suc place i) (h (suc i) (omega arith))))
+  pass-each d place [] h = tt
+  pass-each d place (x ∷ xs) h =
+      (rw (add-zero place) at (h zero (omega arith)), pass-each d (suc place) xs (λ i k. rw (suc-add place i, ← add-suc place i) (h (suc i) (omega arith))))
 
-  pub passes-at : (xs : List ℕ) → length xs ≤ firstFailing test 0 xs → (i : ℕ) → i < length xs → test i (getD xs i 0) ≡ true
-  passes-at xs e i h = rw (zero-add i) at (pass-at 0 xs (all-pass 0 xs (omega arith)) i h)
+  pub passes-at : (d : A) (xs : List A) → length xs ≤ firstFailing test 0 xs → (i : ℕ) → i < length xs → test i (getD xs i d) ≡ true
+  passes-at d xs e i h = rw (zero-add i) at (pass-at d 0 xs (all-pass 0 xs (omega arith)) i h)
 
-  pub passes-each : (xs : List ℕ) → ((i : ℕ) → i < length xs → test i (getD xs i 0) ≡ true) → firstFailing test 0 xs ≡ length xs
-  passes-each xs h = none-fails 0 xs (pass-each 0 xs (λ i k. rw (zero-add i) (h i k))) ∙ zero-add (length xs)
+  pub passes-each : (d : A) (xs : List A) → ((i : ℕ) → i < length xs → test i (getD xs i d) ≡ true) → firstFailing test 0 xs ≡ length xs
+  passes-each d xs h = none-fails 0 xs (pass-each d 0 xs (λ i k. rw (zero-add i) (h i k))) ∙ zero-add (length xs)
 
   -- Two lists one after the other: the first failing place is that of the first list, or else that of the second.
-  pub firstFailing-append : (place end : ℕ) (xs ys : List ℕ) → place + length xs ≡ end → AllPass place xs
+  pub firstFailing-append : (place end : ℕ) (xs ys : List A) → place + length xs ≡ end → AllPass place xs
       → firstFailing test place (xs ++ ys) ≡ firstFailing test end ys
   unfolding firstFailing AllPass
   firstFailing-append place end [] ys e h = ap (λ (p : ℕ). firstFailing test p ys) (omega arith)
   firstFailing-append place end (x ∷ xs) ys e h = rw (h .0) (firstFailing-append (suc place) end xs ys (omega arith) (h .1))
 
-  pub firstFailing-first : (place : ℕ) (xs ys : List ℕ) → firstFailing test place xs < place + length xs
+  pub firstFailing-first : (place : ℕ) (xs ys : List A) → firstFailing test place xs < place + length xs
       → firstFailing test place (xs ++ ys) ≡ firstFailing test place xs
   unfolding firstFailing
   firstFailing-first place [] ys h = absurd (omega arith)
@@ -115,48 +126,21 @@ module _ (test : ℕ → ℕ → Bool) where
       (λ e. rw e refl)
 
   -- A loop that looks for it from place 0 on, before a turn: the first failing place from here on is that of the whole list.
-  abbrev pub Searching : List ℕ → ℕ → Type 0
+  abbrev pub Searching : List A → ℕ → Type 0
   Searching xs i = (i ≤ length xs) × (firstFailing test i (drop i xs) ≡ firstFailing test 0 xs)
 
   -- The turns of a loop that looks for it, from an index on.
-  module _ (xs : List ℕ) (i place : ℕ) where
-    pub search-failed : i < length xs → test place (getD xs i 0) ≡ false → firstFailing test place (drop i xs) ≡ place
-    search-failed h e = rw (drop-cons xs i 0 h) (first-failed place (getD xs i 0) (drop (suc i) xs) e)
+  module _ (xs : List A) (i place : ℕ) where
+    pub search-failed : (d : A) → i < length xs → test place (getD xs i d) ≡ false → firstFailing test place (drop i xs) ≡ place
+    search-failed d h e = rw (drop-cons xs i d h) (first-failed place (getD xs i d) (drop (suc i) xs) e)
 
-    pub search-passed : i < length xs → test place (getD xs i 0) ≡ true
+    pub search-passed : (d : A) → i < length xs → test place (getD xs i d) ≡ true
         → firstFailing test (place + 1) (drop (i + 1) xs) ≡ firstFailing test place (drop i xs)
-    search-passed h e = rw (drop-cons xs i 0 h, first-passed place (getD xs i 0) (drop (suc i) xs) e, add-one i, add-one place)
+    search-passed d h e = rw (drop-cons xs i d h, first-passed place (getD xs i d) (drop (suc i) xs) e, add-one i, add-one place)
 
     pub search-over : length xs ≤ i → firstFailing test place (drop i xs) ≡ place
     unfolding firstFailing
     search-over h = rw (drop-of-length-le xs h)
-
--- ---- The first test that is false
-
-pub false-first : (place : ℕ) (t : Bool) (ts : List Bool) → t ≡ false → firstFalse place (t ∷ ts) ≡ place
-unfolding firstFalse
-false-first place t ts e = rw e
-
-pub true-first : (place : ℕ) (t : Bool) (ts : List Bool) → t ≡ true → firstFalse place (t ∷ ts) ≡ firstFalse (suc place) ts
-unfolding firstFalse
-true-first place t ts e = rw e
-
--- Every test is true.
-unfoldable pub AllTrue : List Bool → Type 0
-AllTrue [] = Unit
-AllTrue (t ∷ ts) = (t ≡ true) × AllTrue ts
-
--- None is false exactly where all are true.
-pub all-true : (place : ℕ) (ts : List Bool) → place + length ts ≤ firstFalse place ts → AllTrue ts
-unfolding AllTrue firstFalse
-all-true place [] h = tt
-all-true place (true ∷ ts) h = (refl, all-true (suc place) ts (omega arith))
-all-true place (false ∷ ts) h = absurd (omega arith)
-
-pub none-false : (place : ℕ) (ts : List Bool) → AllTrue ts → firstFalse place ts ≡ place + length ts
-unfolding AllTrue firstFalse
-none-false place [] h = omega arith
-none-false place (t ∷ ts) h = rw (h .0) (none-false (suc place) ts (h .1) ∙ omega arith)
 
 -- ---- Whether two lists are the same
 

@@ -11,14 +11,13 @@ tabulate zero f = []
 tabulate (suc n) f = f zero ∷ tabulate n (λ i. f (suc i))
 
 -- The first place, from the given one on, where the test of a place and the element there fails; past the last where it fails nowhere.
-unfoldable pub firstFailing : (ℕ → ℕ → Bool) → ℕ → List ℕ → ℕ
+unfoldable pub firstFailing : {A : Type 0} → (ℕ → A → Bool) → ℕ → List A → ℕ
 firstFailing test place [] = place
 firstFailing test place (x ∷ xs) = cond (test place x) (firstFailing test (suc place) xs) place
 
 -- The place of the first test that is false, the first having the given one; past the last where there is none.
-unfoldable pub firstFalse : ℕ → List Bool → ℕ
-firstFalse place [] = place
-firstFalse place (t ∷ ts) = cond t (firstFalse (suc place) ts) place
+abbrev pub firstFalse : ℕ → List Bool → ℕ
+firstFalse place tests = firstFailing (λ (p : ℕ) (t : Bool). t) place tests
 
 -- The two lists are the same.
 unfoldable pub sameList : List ℕ → List ℕ → Bool

@@ -111,21 +111,21 @@ module _ (frame : List ℕ) where
   form-of-tests e large wrong =
       record {
         right-length = e;
-        symbols-to-3 = λ place h. leb-true _ _ (passes-at small frame (rw e large) place (omega arith));
+        symbols-to-3 = λ place h. leb-true _ _ (passes-at small 0 frame (rw e large) place (omega arith));
         right-sync =
-            λ place h. eqb-true _ _ (passes-at synced frame (rw e wrong) place (omega arith));
+            λ place h. eqb-true _ _ (passes-at synced 0 frame (rw e wrong) place (omega arith));
       }
 
   module _ (form : RightForm frame) where
     pub none-large : firstLarge frame ≡ 162
     unfolding firstLarge
     none-large =
-        passes-each small frame (λ place h. le-leb _ _ (form .symbols-to-3 place (omega (arith, form .right-length))))
+        passes-each small 0 frame (λ place h. le-leb _ _ (form .symbols-to-3 place (omega (arith, form .right-length))))
         ∙ form .right-length
 
     pub none-wrong : firstWrongSync frame ≡ 162
     unfolding firstWrongSync
     none-wrong =
-        passes-each synced frame
+        passes-each synced 0 frame
         (λ place h. eq-eqb _ _ (form .right-sync place (omega (arith, form .right-length))))
         ∙ form .right-length

@@ -5,21 +5,23 @@ use native.Mathlib.Omega.{arith}
 use mathlib.Core.Bool.{true, false, not}
 use mathlib.Core.List.{List}
 use lib.Dec.{eqb, leb, ltb}
-use lib.ListN.{length, getD}
+use lib.ListN.{length}
 use borrow.Author.Tests.{le-leb, lt-leb, leb-false, lt-ltb, le-ltb, ltb-false, eq-eqb, ne-eqb, eqb-false}
 use mathlib.Core.Logic.{_↔_}
 use Rattle.basics.proofs.Choice.{cond-passed, cond-both}
-use Rattle.basics.proofs.ListLaws.{all-pass, none-fails}
 use Rattle.refusal.specs.declared.Refusal.{Refusal}
-use Rattle.refusal.specs.Refusals.{refusal, wrongLength, notTelemetry, extendedTelemetry, badPositionNumber, badSensorNumber, outOfRange}
-use Rattle.message.specs.Answer.{rightLengths, packed, packedNumbers, givenNumbers}
-use Rattle.message.specs.declared.Packed.{Packed}
+use Rattle.refusal.specs.Refusals.{refusal, wrongLength, extendedTelemetry, badPositionNumber, badSensorNumber, outOfRange}
+use Rattle.message.specs.Answer.{rightLengths, givenNumbers}
 use Rattle.message.specs.declared.Given.{Given}
-use Rattle.message.proofs.AnswerLaws.{Legal, legal-of-packed, packed-answered, refused-no-word, refused-no-power}
+use Rattle.message.proofs.AnswerLaws.{refused-no-power}
+use Rattle.u4b.specs.Characters.{powerWith}
+use Rattle.u4b.specs.Answer.{carried}
+use Rattle.u4b.specs.declared.Numbers.{Numbers}
+use Rattle.u4b.specs.declared.Carried.{Carried}
+use Rattle.u4b.proofs.AnswerLaws.{refused-nonzero}
 use Rattle.telemetry.specs.Ranges.{firstOutOfRange}
 use Rattle.telemetry.specs.Numbers.{sensorNumber, readingOf}
-use Rattle.telemetry.specs.Characters.{positionOf, powerWith, sensorsOf, basicAt, firstForeign}
-use Rattle.telemetry.specs.Answer.{measuredAnswer, written, numbersAnswer, messageAnswer, ifPacked, decoded, decodedNumbers}
+use Rattle.telemetry.specs.Answer.{measuredAnswer, written, numbersAnswer, carriedAnswer, decoded, decodedNumbers}
 use Rattle.telemetry.specs.RoundTrip.{IsRefused}
 use Rattle.telemetry.specs.declared.Measured.{Measured}
 use Rattle.telemetry.specs.declared.Reading.{Reading}
@@ -54,103 +56,70 @@ module _ (callsign locator : List ℕ) (m : Measured) where
 
 -- ---- The cases of reading the two numbers
 
-module _ (first third a b : ℕ) where
-  pub numbers-extended : b % 2 ≡ 0 → numbersAnswer first third a b ≡ Decoded.Refused (refusal extendedTelemetry 0)
+module _ (n : Numbers) where
+  pub numbers-extended : n .lower % 2 ≡ 0 → numbersAnswer n ≡ Decoded.Refused (refusal extendedTelemetry 0)
   unfolding numbersAnswer
   numbers-extended e = rw (eq-eqb _ 0 e)
 
-  module _ (odd : b % 2 ≡ 0 → ⊥) where
-    pub numbers-position : 615_168 ≤ a → numbersAnswer first third a b ≡ Decoded.Refused (refusal badPositionNumber 0)
+  module _ (odd : n .lower % 2 ≡ 0 → ⊥) where
+    pub numbers-position : 615_168 ≤ n .upper → numbersAnswer n ≡ Decoded.Refused (refusal badPositionNumber 0)
     unfolding numbersAnswer
-    numbers-position h = rw (ne-eqb _ 0 odd, le-leb 615_168 a h)
+    numbers-position h = rw (ne-eqb _ 0 odd, le-leb 615_168 (n .upper) h)
 
-    module _ (position : a < 615_168) where
-      pub numbers-sensors : 604_800 ≤ b → numbersAnswer first third a b ≡ Decoded.Refused (refusal badSensorNumber 0)
+    module _ (position : n .upper < 615_168) where
+      pub numbers-sensors : 604_800 ≤ n .lower → numbersAnswer n ≡ Decoded.Refused (refusal badSensorNumber 0)
       unfolding numbersAnswer
-      numbers-sensors h = rw (ne-eqb _ 0 odd, lt-leb 615_168 a position, le-leb 604_800 b h)
+      numbers-sensors h = rw (ne-eqb _ 0 odd, lt-leb 615_168 (n .upper) position, le-leb 604_800 (n .lower) h)
 
-      pub numbers-reading : b < 604_800 → numbersAnswer first third a b ≡ Decoded.Telemetry (readingOf first third a b)
+      pub numbers-reading : n .lower < 604_800 → numbersAnswer n ≡ Decoded.Telemetry (readingOf (n .first) (n .third) (n .upper) (n .lower))
       unfolding numbersAnswer
-      numbers-reading h = rw (ne-eqb _ 0 odd, lt-leb 615_168 a position, lt-leb 604_800 b h)
+      numbers-reading h = rw (ne-eqb _ 0 odd, lt-leb 615_168 (n .upper) position, lt-leb 604_800 (n .lower) h)
 
 -- ---- The cases of reading a message
 
 module _ (callsign locator : List ℕ) (power : ℕ) where
-  pub decoded-refused : (f : Refusal) → packed callsign locator power ≡ Packed.Refused f → decoded callsign locator power ≡ Decoded.Refused f
-  unfolding decoded ifPacked
+  pub decoded-refused : (f : Refusal) → carried callsign locator power ≡ Carried.Refused f → decoded callsign locator power ≡ Decoded.Refused f
+  unfolding decoded carriedAnswer
   decoded-refused f e = rw e
 
-  pub decoded-message : (word : ℕ) → packed callsign locator power ≡ Packed.Word word
-      → decoded callsign locator power ≡ messageAnswer callsign locator power
-  unfolding decoded ifPacked
-  decoded-message word e = rw e
-
-  pub message-foreign : (place : ℕ) → firstForeign callsign ≡ place → place < 6
-      → messageAnswer callsign locator power ≡ Decoded.Refused (refusal notTelemetry place)
-  unfolding messageAnswer
-  message-foreign place e h = rw (e, lt-ltb place 6 h)
-
-  pub message-numbers : 6 ≤ firstForeign callsign
-      → messageAnswer callsign locator power
-      ≡ numbersAnswer (getD callsign 0 0) (getD callsign 2 0) (positionOf callsign) (sensorsOf locator power)
-  unfolding messageAnswer
-  message-numbers h = rw (le-ltb _ 6 h)
+  pub decoded-numbers : (n : Numbers) → carried callsign locator power ≡ Carried.Numbers n → decoded callsign locator power ≡ numbersAnswer n
+  unfolding decoded carriedAnswer
+  decoded-numbers n e = rw e
 
 -- ---- What is read
 
--- The two numbers are those of basic telemetry.
-pub record BasicNumbers (a b : ℕ) : Type 0 where
-  pub odd : b % 2 ≡ 0 → ⊥
-  pub position : a < 615_168
-  pub sensors : b < 604_800
+-- The numbers are those of basic telemetry, and these are their readings.
+pub record Basic (n : Numbers) (r : Reading) : Type 0 where
+  pub odd : n .lower % 2 ≡ 0 → ⊥
+  pub position : n .upper < 615_168
+  pub sensors : n .lower < 604_800
+  pub its-reading : r ≡ readingOf (n .first) (n .third) (n .upper) (n .lower)
 
-pub refused-no-reading : (f : Refusal) (r : Reading) → Decoded.Refused f ≡ Decoded.Telemetry r → ⊥
+refused-no-reading : (f : Refusal) (r : Reading) → Decoded.Refused f ≡ Decoded.Telemetry r → ⊥
 refused-no-reading f r e = let z : _≡_ {A = ℕ} 0 1 = cc in omega arith
 
-basic-numbers : (first third a b : ℕ) (r : Reading) → numbersAnswer first third a b ≡ Decoded.Telemetry r
-    → BasicNumbers a b × (r ≡ readingOf first third a b)
+basic-numbers : (n : Numbers) (r : Reading) → numbersAnswer n ≡ Decoded.Telemetry r → Basic n r
 unfolding numbersAnswer
-basic-numbers first third a b r e =
-    let parity = cond-passed (eqb (b % 2) 0) e (refused-no-reading _ r) in
-    let position = cond-passed (leb 615_168 a) (parity .1) (refused-no-reading _ r) in
-    let sensors = cond-passed (leb 604_800 b) (position .1) (refused-no-reading _ r) in (
-      record { odd = eqb-false _ _ (parity .0); position = leb-false _ _ (position .0); sensors = leb-false _ _ (sensors .0) },
-      cc,
-    )
-
--- What a message is that is read.
-pub record Basic (callsign locator : List ℕ) (power : ℕ) (r : Reading) : Type 0 where
-  pub legal : Legal callsign locator power
-  pub native : firstForeign callsign ≡ 6
-  pub numbers : BasicNumbers (positionOf callsign) (sensorsOf locator power)
-  pub its-reading : r ≡ readingOf (getD callsign 0 0) (getD callsign 2 0) (positionOf callsign) (sensorsOf locator power)
-
--- In six characters, that none of the first six is foreign says that none is.
-pub none-foreign : (callsign : List ℕ) → length callsign ≡ 6 → 6 ≤ firstForeign callsign → firstForeign callsign ≡ 6
-unfolding firstForeign
-none-foreign callsign six h = omega (arith, none-fails basicAt 0 callsign (all-pass basicAt 0 callsign (omega arith)))
-
-basic-message : (callsign locator : List ℕ) (power : ℕ) (r : Reading) → Legal callsign locator power
-    → messageAnswer callsign locator power ≡ Decoded.Telemetry r → Basic callsign locator power r
-unfolding messageAnswer
-basic-message callsign locator power r legal e =
-    let foreign = cond-passed (ltb (firstForeign callsign) 6) e (refused-no-reading _ r) in
-    let numbers = basic-numbers _ _ _ _ r (foreign .1) in
+basic-numbers n r e =
+    let parity = cond-passed (eqb (n .lower % 2) 0) e (refused-no-reading _ r) in
+    let position = cond-passed (leb 615_168 (n .upper)) (parity .1) (refused-no-reading _ r) in
+    let sensors = cond-passed (leb 604_800 (n .lower)) (position .1) (refused-no-reading _ r) in
     record {
-      legal = legal;
-      native = none-foreign callsign (legal .six) (ltb-false _ _ (foreign .0));
-      numbers = numbers .0;
-      its-reading = numbers .1;
+      odd = eqb-false _ _ (parity .0);
+      position = leb-false _ _ (position .0);
+      sensors = leb-false _ _ (sensors .0);
+      its-reading = cc;
     }
 
+-- A message that is read carries such numbers.
 pub basic : (callsign locator : List ℕ) (power : ℕ) (r : Reading) → decoded callsign locator power ≡ Decoded.Telemetry r
-    → Basic callsign locator power r
-basic callsign locator power r e = go (packed callsign locator power) refl
+    → (n : Numbers) × ((carried callsign locator power ≡ Carried.Numbers n) × Basic n r)
+basic callsign locator power r e = go (carried callsign locator power) refl
   where
-    go : (answer : Packed) → packed callsign locator power ≡ answer → Basic callsign locator power r
-    go (Packed.Word w) p =
-        basic-message callsign locator power r (legal-of-packed callsign locator power w p .0) (sym (decoded-message callsign locator power w p) ∙ e)
-    go (Packed.Refused f) p = absurd (refused-no-reading f r (sym (decoded-refused callsign locator power f p) ∙ e))
+    go : (answer : Carried) → carried callsign locator power ≡ answer
+        → (n : Numbers) × ((carried callsign locator power ≡ Carried.Numbers n) × Basic n r)
+    go (Carried.Numbers n) p = (n, (p, basic-numbers n r (sym (decoded-numbers callsign locator power n p) ∙ e)))
+    go (Carried.Refused f) p = absurd (refused-no-reading f r (sym (decoded-refused callsign locator power f p) ∙ e))
 
 -- ---- The refusal number 0 is that of the answers that are no refusal
 
@@ -166,28 +135,22 @@ written-answered callsign locator m =
 Answered : Decoded → Type 0
 Answered a = decodedNumbers a .number ≡ 0 → a ≡ Decoded.Telemetry (decodedNumbers a .reading)
 
-message-answered : (callsign locator : List ℕ) (power : ℕ) → Answered (messageAnswer callsign locator power)
-unfolding Answered messageAnswer numbersAnswer decodedNumbers
-message-answered callsign locator power =
-    let a = positionOf callsign in
-    let b = sensorsOf locator power in
-    cond-both Answered (ltb (firstForeign callsign) 6) (λ z. absurd (omega arith))
-    (cond-both Answered (eqb (b % 2) 0) (λ z. absurd (omega arith))
-    (cond-both Answered (leb 615_168 a) (λ z. absurd (omega arith))
-    (cond-both Answered (leb 604_800 b) (λ z. absurd (omega arith)) (λ z. refl))))
+numbers-answered : (n : Numbers) → Answered (numbersAnswer n)
+unfolding Answered numbersAnswer decodedNumbers
+numbers-answered n =
+    cond-both Answered (eqb (n .lower % 2) 0) (λ z. absurd (omega arith))
+    (cond-both Answered (leb 615_168 (n .upper)) (λ z. absurd (omega arith))
+    (cond-both Answered (leb 604_800 (n .lower)) (λ z. absurd (omega arith)) (λ z. refl)))
 
-if-answered : (answer : Packed) (d : Decoded) → (packedNumbers answer .number ≡ 0 → answer ≡ Packed.Word (packedNumbers answer .word)) → Answered d
-    → Answered (ifPacked answer d)
-unfolding Answered ifPacked decodedNumbers packedNumbers
-if-answered (Packed.Word w) d h k = k
-if-answered (Packed.Refused f) d h k = λ z. absurd (refused-no-word f _ (h z))
+carried-answered : (answer : Carried) → ((f : Refusal) → answer ≡ Carried.Refused f → f .number ≡ 0 → ⊥) → Answered (carriedAnswer answer)
+unfolding Answered carriedAnswer decodedNumbers
+carried-answered (Carried.Numbers n) h = numbers-answered n
+carried-answered (Carried.Refused f) h = λ z. absurd (h f refl z)
 
 pub decoded-answered : (callsign locator : List ℕ) (power : ℕ) → decodedNumbers (decoded callsign locator power) .number ≡ 0
     → decoded callsign locator power ≡ Decoded.Telemetry (decodedNumbers (decoded callsign locator power) .reading)
 unfolding Answered decoded
-decoded-answered callsign locator power =
-    if-answered (packed callsign locator power) (messageAnswer callsign locator power) (packed-answered callsign locator power)
-    (message-answered callsign locator power)
+decoded-answered callsign locator power = carried-answered (carried callsign locator power) (refused-nonzero callsign locator power)
 
 nonzero-refused : (answer : Decoded) → (decodedNumbers answer .number ≡ 0 → ⊥) → IsRefused answer
 unfolding decodedNumbers

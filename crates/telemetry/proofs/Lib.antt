@@ -1,9 +1,7 @@
--- `RangeLaws`, `CodeLaws`, `NumberLaws`: what is measured, its codes and the two numbers. `CallsignLaws`, `LocatorLaws`: the numbers in a message.
--- `AnswerLaws`: the cases of the answers. `RoundTripLaws`: writing and reading, one after the other.
+-- `RangeLaws`, `CodeLaws`, `NumberLaws`: what is measured, its codes and the two numbers. `AnswerLaws`: the cases of the answers.
+-- `RoundTripLaws`: writing and reading, one after the other.
 pub mod RangeLaws
 pub mod CodeLaws
 pub mod NumberLaws
-pub mod CallsignLaws
-pub mod LocatorLaws
 pub mod AnswerLaws
 pub mod RoundTripLaws

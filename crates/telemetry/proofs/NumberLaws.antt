@@ -5,10 +5,9 @@ use Prim.Native.Nat.{ℕ, _+_, _-_, _/_, _%_, _≤_, _<_}
 use native.Mathlib.Nat.{add-sub-cancel}
 use native.Mathlib.Omega.{arith}
 use mathlib.Core.Bool.{true}
-use Rattle.basics.specs.Test.{between}
 use Rattle.radix.specs.Numeral.{Digits, Positive, count, numberFrom, numberOf, digitsOf}
 use Rattle.radix.proofs.Laws.{number-below, digits-in-range, digitsOf-numberOf, numberOf-digitsOf}
-use Rattle.telemetry.specs.Ranges.{isFirst}
+use Rattle.u4b.specs.Channel.{isFirstCharacter, isThirdCharacter}
 use Rattle.telemetry.specs.Numbers.{positionRadices, positionDigits, positionNumber, sensorRadices, sensorDigits, sensorNumber, readingFrom, readingOf}
 use Rattle.telemetry.specs.RoundTrip.{quantised, inTenths}
 use Rattle.telemetry.specs.declared.Measured.{Measured}
@@ -79,7 +78,7 @@ module _ (m : Measured) (r : InRange m) where
 
 -- ---- The readings in two numbers
 
-module _ (first third a b : ℕ) (is-first : isFirst first ≡ true) (is-third : between 48 57 third ≡ true) where
+module _ (first third a b : ℕ) (is-first : isFirstCharacter first ≡ true) (is-third : isThirdCharacter third ≡ true) where
   -- What the readings in the two numbers write.
   abbrev again : Measured
   again = inTenths (readingOf first third a b)

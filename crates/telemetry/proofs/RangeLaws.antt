@@ -1,18 +1,22 @@
 -- Laws of the ranges: what each range says, and that nothing is out of its range exactly where all are in it.
 use mathlib.Core.Path.{_≡_}
-use Prim.Native.Nat.{_≤_}
+use Prim.Native.Nat.{ℕ, _≤_}
 use native.Mathlib.Omega.{arith}
-use mathlib.Core.Bool.{true}
-use Rattle.basics.specs.Test.{between}
+use mathlib.Core.Bool.{Bool, true}
 use Rattle.basics.proofs.Choice.{between-true, between-range}
-use Rattle.basics.proofs.ListLaws.{AllTrue, all-true, none-false}
-use Rattle.telemetry.specs.Ranges.{isFirst, temperatureInRange, inRanges, firstOutOfRange}
+use Rattle.basics.proofs.ListLaws.{AllPass, firstFailing-end, all-pass, none-fails}
+use Rattle.u4b.specs.Channel.{isFirstCharacter, isThirdCharacter}
+use Rattle.telemetry.specs.Ranges.{temperatureInRange, inRanges, firstOutOfRange}
 use Rattle.telemetry.specs.declared.Measured.{Measured}
+
+-- A test of `inRanges`, as a test of an element of a list.
+abbrev pub isTrue : ℕ → Bool → Bool
+isTrue place test = test
 
 -- What is measured is in its ranges.
 pub record InRange (m : Measured) : Type 0 where
-  pub first : isFirst (m .first) ≡ true
-  pub third : between 48 57 (m .third) ≡ true
+  pub first : isFirstCharacter (m .first) ≡ true
+  pub third : isThirdCharacter (m .third) ≡ true
   pub grid5 : (65 ≤ m .grid5) × (m .grid5 ≤ 88)
   pub grid6 : (65 ≤ m .grid6) × (m .grid6 ≤ 88)
   pub altitude : m .altitude ≤ 21_359
@@ -22,9 +26,9 @@ pub record InRange (m : Measured) : Type 0 where
   pub gps : m .gps ≤ 1
 
 pub in-range : (m : Measured) → 9 ≤ firstOutOfRange m → InRange m
-unfolding inRanges firstOutOfRange AllTrue
+unfolding inRanges firstOutOfRange AllPass
 in-range m h =
-    let t = all-true 0 _ h in
+    let t = all-pass isTrue 0 _ h in
     record {
       first = t .0;
       third = t .1 .0;
@@ -37,10 +41,14 @@ in-range m h =
       gps = between-range 0 1 (m .gps) (t .1 .1 .1 .1 .1 .1 .1 .1 .0) .1;
     }
 
+pub firstOutOfRange-end : (m : Measured) → firstOutOfRange m ≤ 9
+unfolding inRanges firstOutOfRange
+firstOutOfRange-end m = firstFailing-end isTrue 0 (inRanges m)
+
 pub none-out-of-range : (m : Measured) → InRange m → firstOutOfRange m ≡ 9
-unfolding inRanges firstOutOfRange AllTrue
+unfolding inRanges firstOutOfRange AllPass
 none-out-of-range m r =
-    none-false 0 _ (
+    none-fails isTrue 0 _ (
       r .first,
       (
         r .third,

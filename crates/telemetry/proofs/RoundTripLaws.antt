@@ -5,62 +5,34 @@ use Prim.Native.Nat.{ℕ}
 use native.Mathlib.Omega.{arith}
 use mathlib.Core.Bool.{true}
 use mathlib.Core.List.{List}
-use lib.ListN.{length, getD}
-use Rattle.basics.proofs.ListLaws.{none-fails}
+use lib.ListN.{length}
 use Rattle.refusal.specs.declared.Refusal.{Refusal}
-use Rattle.message.specs.Character.{legalAt, firstBad}
-use Rattle.message.specs.Word.{wordOf}
-use Rattle.message.specs.Answer.{rightLengths, packed, contentAfter}
-use Rattle.message.specs.declared.Packed.{Packed}
+use Rattle.message.specs.Answer.{rightLengths, contentAfter}
 use Rattle.message.specs.declared.Given.{Given}
-use Rattle.message.proofs.AnswerLaws.{right-lengths, legal-whole, packed-word}
+use Rattle.u4b.specs.Characters.{powerWith}
+use Rattle.u4b.specs.declared.Numbers.{Numbers}
+use Rattle.u4b.proofs.AnswerLaws.{Carries}
+use Rattle.u4b.proofs.AnswerLaws as U4b
 use Rattle.telemetry.specs.Numbers.{positionNumber, sensorNumber, readingFrom, readingOf}
-use Rattle.telemetry.specs.Characters.{positionOf, powerWith, sensorsOf}
-use Rattle.telemetry.specs.Answer.{measuredAnswer, callsignFrom, locatorFrom, written, callsignWritten, locatorWritten, numbersAnswer, messageAnswer, decoded}
+use Rattle.telemetry.specs.Answer.{measuredAnswer, callsignFrom, locatorFrom, written, callsignWritten, locatorWritten, decoded}
 use Rattle.telemetry.specs.RoundTrip.{quantised, inTenths, WritesAs, ReadsBack, WritesBack, IsRefused, NeverWritten, RefusesExactly}
 use Rattle.telemetry.specs.declared.Measured.{Measured}
 use Rattle.telemetry.specs.declared.Reading.{Reading}
 use Rattle.telemetry.specs.declared.Decoded.{Decoded}
 use Rattle.telemetry.proofs.RangeLaws.{InRange, in-range, none-out-of-range}
 use Rattle.telemetry.proofs.NumberLaws.{position-below, sensor-below, sensor-odd, readingOf-numbers, again-in-range, again-position, again-sensors}
-use Rattle.telemetry.proofs.CallsignLaws.{callsignWith-length, callsignWith-legal, callsignWith-first, callsignWith-third, callsignWith-basic, positionOf-callsignWith, first-of, third-of, callsignWith-positionOf}
-use Rattle.telemetry.proofs.LocatorLaws.{locatorWith-length, locatorWith-legal, powerWith-legal, sensorsOf-locatorWith, locatorWith-sensorsOf, powerWith-sensorsOf}
-use Rattle.telemetry.proofs.AnswerLaws.{measured-power, range-of-written, written-measured, numbers-reading, decoded-message, message-numbers, Basic, basic}
+use Rattle.telemetry.proofs.AnswerLaws.{measured-power, range-of-written, written-measured, numbers-reading, decoded-numbers, Basic, basic}
 
 -- ---- What was written reads back
 
-module _ (m : Measured) (r : InRange m) where
-  -- What is written is a message of legal characters and power.
-  written-packed : packed (callsignFrom m) (locatorFrom m) (powerWith (sensorNumber m))
-      ≡ Packed.Word (wordOf (callsignFrom m) (locatorFrom m) (powerWith (sensorNumber m)))
-  unfolding callsignFrom locatorFrom
-  written-packed =
-      let six = callsignWith-length (m .first) (m .third) (positionNumber m) in
-      let four = locatorWith-length (sensorNumber m) in
-      packed-word _ _ _ (right-lengths (callsignFrom m) (locatorFrom m) six four)
-      (legal-whole _ _ six four (callsignWith-legal _ _ (r .first) (r .third) (positionNumber m)) (locatorWith-legal (sensorNumber m)))
-      (powerWith-legal (sensorNumber m))
-
-  -- Its channel and numbers are those that were written.
-  written-numbers : messageAnswer (callsignFrom m) (locatorFrom m) (powerWith (sensorNumber m))
-      ≡ numbersAnswer (m .first) (m .third) (positionNumber m) (sensorNumber m)
-  unfolding callsignFrom locatorFrom
-  written-numbers =
-      let a = positionNumber m in
-      let b = sensorNumber m in
-      message-numbers _ _ _ (omega (arith, callsignWith-basic (m .first) (m .third) (r .first) (r .third) a))
-      ∙ rw (
-        callsignWith-first (m .first) (m .third) (r .first) (r .third) a,
-        callsignWith-third (m .first) (m .third) (r .first) (r .third) a,
-        positionOf-callsignWith (m .first) (m .third) (r .first) (r .third) a (omega (arith, position-below m r)),
-        sensorsOf-locatorWith b (omega (arith, sensor-below m r)),
-      )
-
-  reads-quantised : decoded (callsignFrom m) (locatorFrom m) (powerWith (sensorNumber m)) ≡ Decoded.Telemetry (quantised m)
-  reads-quantised =
-      decoded-message _ _ _ _ written-packed ∙ written-numbers
-      ∙ numbers-reading _ _ _ _ (sensor-odd m r) (position-below m r) (sensor-below m r)
-      ∙ ap Decoded.Telemetry (readingOf-numbers m r)
+reads-quantised : (m : Measured) → InRange m → decoded (callsignFrom m) (locatorFrom m) (powerWith (sensorNumber m)) ≡ Decoded.Telemetry (quantised m)
+unfolding callsignFrom locatorFrom
+reads-quantised m r =
+    let position = position-below m r in
+    let sensors = sensor-below m r in
+    decoded-numbers _ _ _ _ (U4b.read-write (m .first) (m .third) (positionNumber m) (sensorNumber m) (r .first) (r .third) (omega arith) (omega arith))
+    ∙ numbers-reading _ (sensor-odd m r) position sensors
+    ∙ ap Decoded.Telemetry (readingOf-numbers m r)
 
 pub read-write : (m : Measured) (power : ℕ) → measuredAnswer m ≡ Given.Power power
     → decoded (callsignFrom m) (locatorFrom m) power ≡ Decoded.Telemetry (quantised m)
@@ -70,30 +42,24 @@ read-write m power e =
 
 -- ---- What was read writes back
 
-writes-again : (callsign locator : List ℕ) (power : ℕ) (r : Reading) → Basic callsign locator power r
+writes-again : (callsign locator : List ℕ) (power : ℕ) (n : Numbers) (r : Reading) → Carries callsign locator power n → Basic n r
     → WritesAs (inTenths r) callsign locator power
 unfolding callsignFrom locatorFrom inTenths readingOf readingFrom
-writes-again callsign locator power r k =
-    let l = k .legal in
-    let n = k .numbers in
-    let good : firstBad 0 callsign ≡ 6 = omega (arith, none-fails legalAt 0 callsign (l .callsign-legal), l .six) in
-    let good-locator : firstBad 6 locator ≡ 10 = omega (arith, none-fails legalAt 6 locator (l .locator-legal), l .four) in
-    let first = first-of callsign (l .six) good (k .native) in
-    let third = third-of callsign (l .six) good (k .native) in
-    let a = positionOf callsign in
-    let b = sensorsOf locator power in
-    let position = again-position (getD callsign 0 0) (getD callsign 2 0) a b first third (n .position) in
-    let sensors = again-sensors (getD callsign 0 0) (getD callsign 2 0) a b first third (n .odd) (n .sensors) in
-    let range = none-out-of-range _ (again-in-range (getD callsign 0 0) (getD callsign 2 0) a b first third) in
-    rw (k .its-reading) (record {
-      its-power = measured-power _ (omega (arith, range)) ∙ ap Given.Power (ap powerWith sensors ∙ powerWith-sensorsOf locator power (l .four) good-locator (l .power-legal));
-      its-callsign = rw position (callsignWith-positionOf callsign (l .six) good (k .native));
-      its-locator = rw sensors (locatorWith-sensorsOf locator power (l .four) good-locator (l .power-legal));
+writes-again callsign locator power n r c b =
+    let position = again-position (n .first) (n .third) (n .upper) (n .lower) (c .is-first) (c .is-third) (b .position) in
+    let sensors = again-sensors (n .first) (n .third) (n .upper) (n .lower) (c .is-first) (c .is-third) (b .odd) (b .sensors) in
+    let range = none-out-of-range _ (again-in-range (n .first) (n .third) (n .upper) (n .lower) (c .is-first) (c .is-third)) in
+    rw (b .its-reading) (record {
+      its-power = measured-power _ (omega (arith, range)) ∙ ap Given.Power (ap powerWith sensors ∙ c .its-power);
+      its-callsign = rw position (c .its-callsign);
+      its-locator = rw sensors (c .its-locator);
     })
 
 pub write-read : (callsign locator : List ℕ) (power : ℕ) (r : Reading) → decoded callsign locator power ≡ Decoded.Telemetry r
     → WritesAs (inTenths r) callsign locator power
-write-read callsign locator power r e = writes-again callsign locator power r (basic callsign locator power r e)
+write-read callsign locator power r e =
+    let (n, (carried, b)) = basic callsign locator power r e in
+    writes-again callsign locator power n r (U4b.write-read callsign locator power n carried) b
 
 -- ---- The reader refuses exactly what the writer never makes
 

@@ -4,14 +4,16 @@ use mathlib.Core.Bool.{cond, not}
 use mathlib.Core.List.{List}
 use lib.Dec.{eqb, leb, ltb}
 use lib.IntN.{pos}
-use lib.ListN.{length, getD}
-use Rattle.refusal.specs.Refusals.{refusal, wrongLength, notTelemetry, extendedTelemetry, badPositionNumber, badSensorNumber, outOfRange}
-use Rattle.message.specs.Answer.{rightLengths, packed, contentAfter}
-use Rattle.message.specs.declared.Packed.{Packed}
+use lib.ListN.{length}
+use Rattle.refusal.specs.Refusals.{refusal, wrongLength, extendedTelemetry, badPositionNumber, badSensorNumber, outOfRange}
+use Rattle.message.specs.Answer.{rightLengths, contentAfter}
 use Rattle.message.specs.declared.Given.{Given}
+use Rattle.u4b.specs.Characters.{callsignWith, locatorWith, powerWith}
+use Rattle.u4b.specs.Answer.{carried}
+use Rattle.u4b.specs.declared.Numbers.{Numbers}
+use Rattle.u4b.specs.declared.Carried.{Carried}
 use Rattle.telemetry.specs.Ranges.{firstOutOfRange}
 use Rattle.telemetry.specs.Numbers.{positionNumber, sensorNumber, readingOf}
-use Rattle.telemetry.specs.Characters.{callsignWith, positionOf, locatorWith, powerWith, sensorsOf, firstForeign}
 use Rattle.telemetry.specs.declared.Measured.{Measured}
 use Rattle.telemetry.specs.declared.Reading.{Reading}
 use Rattle.telemetry.specs.declared.Decoded.{Decoded}
@@ -47,27 +49,21 @@ locatorWritten callsign locator m = contentAfter (written callsign locator m) lo
 
 -- ---- Reading: "telemetry reading 1, 2, 3, 10, 11, 12, 13"
 
--- The readings in the two numbers, or why they aren't those of basic telemetry.
-unfoldable pub numbersAnswer : ℕ → ℕ → ℕ → ℕ → Decoded
-numbersAnswer first third a b =
-    cond (eqb (b % 2) 0) (Decoded.Refused (refusal extendedTelemetry 0))
-    (cond (leb 615_168 a) (Decoded.Refused (refusal badPositionNumber 0))
-    (cond (leb 604_800 b) (Decoded.Refused (refusal badSensorNumber 0))
-    (Decoded.Telemetry (readingOf first third a b))))
+-- The readings in the two numbers A and B, or why they aren't those of basic telemetry.
+unfoldable pub numbersAnswer : Numbers → Decoded
+numbersAnswer n =
+    cond (eqb (n .lower % 2) 0) (Decoded.Refused (refusal extendedTelemetry 0))
+    (cond (leb 615_168 (n .upper)) (Decoded.Refused (refusal badPositionNumber 0))
+    (cond (leb 604_800 (n .lower)) (Decoded.Refused (refusal badSensorNumber 0))
+    (Decoded.Telemetry (readingOf (n .first) (n .third) (n .upper) (n .lower)))))
 
--- The readings of a message of legal characters and power.
-unfoldable pub messageAnswer : List ℕ → List ℕ → ℕ → Decoded
-messageAnswer callsign locator power =
-    cond (ltb (firstForeign callsign) 6) (Decoded.Refused (refusal notTelemetry (firstForeign callsign)))
-    (numbersAnswer (getD callsign 0 0) (getD callsign 2 0) (positionOf callsign) (sensorsOf locator power))
-
--- 1, 2 and 3 are those of packing: the answer where the message is packed, else its refusal.
-unfoldable pub ifPacked : Packed → Decoded → Decoded
-ifPacked (Packed.Word w) answer = answer
-ifPacked (Packed.Refused f) answer = Decoded.Refused f
+-- 1, 2, 3 and 10 are those of reading the channel and the two numbers.
+unfoldable pub carriedAnswer : Carried → Decoded
+carriedAnswer (Carried.Numbers n) = numbersAnswer n
+carriedAnswer (Carried.Refused f) = Decoded.Refused f
 
 unfoldable pub decoded : List ℕ → List ℕ → ℕ → Decoded
-decoded callsign locator power = ifPacked (packed callsign locator power) (messageAnswer callsign locator power)
+decoded callsign locator power = carriedAnswer (carried callsign locator power)
 
 -- ---- The result numbers of an answer: 0 where it has none
 

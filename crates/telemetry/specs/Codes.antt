@@ -7,15 +7,15 @@ use lib.Signed.{quotZ}
 
 -- "code is metres divided by 20, rounded down"
 unfoldable pub altitudeCode : ℕ → ℕ
-altitudeCode metres = metres / 20
+altitudeCode altitude = altitude / 20
 
 -- "drop the tenths toward zero, add 50". In the range the sum is 0 to 89, so that it is its own absolute value.
 unfoldable pub temperatureCode : ℤ → ℕ
 temperatureCode tenths = natAbs (quotZ tenths (pos 10) +ℤ pos 50)
 
--- "(mV - 2,000) divided by 50, rounded down, modulo 40"
+-- "(mV - 2,000) divided by 50, rounded down, modulo 40". In the range the difference doesn't fall below 0.
 unfoldable pub voltageCode : ℕ → ℕ
-voltageCode millivolts = (millivolts - 2_000) / 50 % 40
+voltageCode voltage = (voltage - 2_000) / 50 % 40
 
 -- "divided by 20, rounded down"
 unfoldable pub speedCode : ℕ → ℕ

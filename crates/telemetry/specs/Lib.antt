@@ -1,8 +1,7 @@
--- U4B basic telemetry, in 01's order: the ranges of what is measured, the codes, the two numbers, the characters of a message; then
--- what writing and reading answer, and what the two promise of each other.
+-- U4B basic telemetry: the ranges of what is measured, the codes, the two numbers; then what writing and reading answer, and what the
+-- two promise of each other. How the numbers stand in a message is u4b's.
 pub mod Ranges
 pub mod Codes
 pub mod Numbers
-pub mod Characters
 pub mod Answer
 pub mod RoundTrip

@@ -4,6 +4,7 @@ use mathlib.Core.List.{List, [], _∷_}
 use lib.ListN.{getD}
 use Rattle.radix.specs.Numeral.{numberOf, digitsOf}
 use Rattle.telemetry.specs.Codes.{altitudeCode, temperatureCode, voltageCode, speedCode, metres, degrees, millivolts, knots}
+use Rattle.u4b.specs.declared.Numbers.{Numbers}
 use Rattle.telemetry.specs.declared.Measured.{Measured}
 use Rattle.telemetry.specs.declared.Reading.{Reading}
 
@@ -13,7 +14,8 @@ use Rattle.telemetry.specs.declared.Reading.{Reading}
 unfoldable pub positionRadices : List ℕ
 positionRadices = 24 ∷ 24 ∷ 1_068 ∷ []
 
--- "Sub-square letters g5, g6 are A-X, passed in and out as capital letters and counted 0 to 23." In ASCII, A is 65.
+-- "Sub-square letters g5, g6 are A-X, passed in and out as capital letters and counted 0 to 23." In ASCII, A is 65; in the range no
+-- difference falls below 0.
 unfoldable pub positionDigits : Measured → List ℕ
 positionDigits m = (m .grid5 - 65) ∷ (m .grid6 - 65) ∷ altitudeCode (m .altitude) ∷ []
 
@@ -31,6 +33,11 @@ sensorDigits m = temperatureCode (m .temperature) ∷ voltageCode (m .voltage) �
 
 unfoldable pub sensorNumber : Measured → ℕ
 sensorNumber m = numberOf sensorRadices (sensorDigits m)
+
+-- ---- The channel's characters and both numbers
+
+unfoldable pub numbersFrom : Measured → Numbers
+numbersFrom m = record { first = m .first; third = m .third; upper = positionNumber m; lower = sensorNumber m }
 
 -- ---- Back
 

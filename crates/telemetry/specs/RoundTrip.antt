@@ -61,7 +61,8 @@ abbrev pub IsRefused : Decoded → Type 0
 IsRefused (Decoded.Telemetry r) = ⊥
 IsRefused (Decoded.Refused f) = Unit
 
--- Nothing that is measured writes this message.
+-- Nothing that is measured writes this message. Numbers that don't fit the types of the fields are out of range, so that nothing is added
+-- by naming them here.
 abbrev pub NeverWritten : List ℕ → List ℕ → ℕ → Type 0
 NeverWritten callsign locator power = (m : Measured) → WritesAs m callsign locator power → ⊥
 

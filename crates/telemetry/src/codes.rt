@@ -4,7 +4,7 @@ ghost use mathlib.Core.Bool.{true};
 ghost use Prim.Native.Nat.{_≤_};
 ghost use Rattle.telemetry.specs.Ranges.{temperatureInRange, firstOutOfRange};
 ghost use Rattle.telemetry.specs.Codes.{temperatureCode, voltageCode, degrees, millivolts};
-ghost use Rattle.telemetry.specs.Numbers.{positionNumber, sensorNumber, readingOf};
+ghost use Rattle.telemetry.specs.Numbers.{positionNumber, sensorNumber, numbersFrom, readingOf};
 ghost use Rattle.telemetry.specs.Answer.{numbersAnswer};
 use super::Decoded;
 use super::Measured;
@@ -13,17 +13,18 @@ use refusal::BAD_POSITION_NUMBER;
 use refusal::BAD_SENSOR_NUMBER;
 use refusal::EXTENDED_TELEMETRY;
 use refusal::Refusal;
+use u4b::Numbers;
 
 // For the two letters of the sub-square and the altitude's code, and how many numbers they make.
 const POSITION_RADICES: [u64; 3] = [24, 24, 1_068];
 
-const POSITIONS: u64 = 615_168;
+const POSITION_COUNT: u64 = 615_168;
 
 // For the codes of temperature, voltage and speed, GPS and the 1 of basic telemetry, and how many
 // numbers they make.
 const SENSOR_RADICES: [u64; 5] = [90, 40, 42, 2, 2];
 
-const SENSORS: u64 = 604_800;
+const SENSOR_COUNT: u64 = 604_800;
 
 // Signed division drops the tenths toward zero.
 fn temperature_code(tenths: i32) -> u64
@@ -41,7 +42,7 @@ fn voltage_code(voltage: u32) -> u64
 }
 
 // The number of the sub-square and altitude (01: A).
-pub(crate) fn position_number(m: Measured) -> u64
+fn position_number(m: Measured) -> u64
     requires { ⌜ firstOutOfRange m ≡ 9 ⌝ }
     ensures { λ r. ⌜ r ≡ positionNumber m ⌝ }
 {
@@ -54,7 +55,7 @@ pub(crate) fn position_number(m: Measured) -> u64
 }
 
 // The number of temperature, voltage, speed and GPS (01: B).
-pub(crate) fn sensor_number(m: Measured) -> u64
+fn sensor_number(m: Measured) -> u64
     requires { ⌜ firstOutOfRange m ≡ 9 ⌝ }
     ensures { λ r. ⌜ r ≡ sensorNumber m ⌝ }
 {
@@ -62,6 +63,19 @@ pub(crate) fn sensor_number(m: Measured) -> u64
     let voltage = voltage_code(m.voltage);
     let digits = [temperature, voltage, (m.speed / 20) as u64, m.gps as u64, 1];
     radix::pack(&SENSOR_RADICES, &digits)
+}
+
+// The channel's characters and both numbers.
+pub(crate) fn numbers_of(m: Measured) -> Numbers
+    requires { ⌜ firstOutOfRange m ≡ 9 ⌝ }
+    ensures { λ r. ⌜ r ≡ numbersFrom m ⌝ }
+{
+    Numbers {
+        first: m.first,
+        third: m.third,
+        upper: position_number(m),
+        lower: sensor_number(m),
+    }
 }
 
 fn degrees_of(code: u64) -> i32
@@ -100,26 +114,26 @@ fn reading_of(first: u8, third: u8, position: u64, sensors: u64) -> Reading
 }
 
 // The readings in the two numbers, where they are those of basic telemetry.
-pub(crate) fn read_numbers(first: u8, third: u8, position: u64, sensors: u64) -> Decoded
-    ensures { λ r. ⌜ r ≡ numbersAnswer first third position sensors ⌝ }
+pub(crate) fn read_numbers(numbers: Numbers) -> Decoded
+    ensures { λ r. ⌜ r ≡ numbersAnswer numbers ⌝ }
 {
-    if sensors % 2 == 0 {
+    if numbers.lower % 2 == 0 {
         return Decoded::Refused(Refusal {
             number: EXTENDED_TELEMETRY,
             place: 0,
         });
     }
-    if POSITIONS <= position {
+    if POSITION_COUNT <= numbers.upper {
         return Decoded::Refused(Refusal {
             number: BAD_POSITION_NUMBER,
             place: 0,
         });
     }
-    if SENSORS <= sensors {
+    if SENSOR_COUNT <= numbers.lower {
         return Decoded::Refused(Refusal {
             number: BAD_SENSOR_NUMBER,
             place: 0,
         });
     }
-    Decoded::Telemetry(reading_of(first, third, position, sensors))
+    Decoded::Telemetry(reading_of(numbers.first, numbers.third, numbers.upper, numbers.lower))
 }

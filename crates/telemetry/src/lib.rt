@@ -1,18 +1,15 @@
 // U4B basic telemetry: what a balloon measured, to and from a message.
-mod callsign;
 mod codes;
-mod locator;
 mod range;
 
 ghost use mathlib.Core.Path.{_≡_};
 ghost use Rattle.telemetry.specs.Answer.{written, callsignWritten, locatorWritten, decoded};
 ghost use Rattle.telemetry.specs.RoundTrip.{ReadsBack, WritesBack, RefusesExactly};
 use message::Given;
-use message::Packed;
-use refusal::NOT_TELEMETRY;
 use refusal::OUT_OF_RANGE;
 use refusal::Refusal;
 use refusal::WRONG_LENGTH;
+use u4b::Carried;
 
 // What is sent: the channel's two characters, the two letters of the sub-square, and what was
 // measured, in metres, tenths of a degree, millivolts and tenths of a knot; GPS is 0 or 1.
@@ -67,31 +64,18 @@ pub fn write(measured: Measured, callsign: &mut [u8], locator: &mut [u8]) -> Giv
             place: bad,
         });
     }
-    let position = codes::position_number(measured);
-    let sensors = codes::sensor_number(measured);
-    callsign::write_callsign(measured.first, measured.third, position, callsign);
-    Given::Power(locator::write_locator(sensors, locator))
+    let numbers = codes::numbers_of(measured);
+    Given::Power(u4b::write(numbers, callsign, locator))
 }
 
-// What a message says, where it is one of basic telemetry. What isn't a message is refused as when it
-// is packed.
+// What a message says, where it is one of basic telemetry.
 pub fn read(callsign: &[u8], locator: &[u8], power: u32) -> Decoded
     ensures answer { λ r. ⌜ r ≡ decoded (now (callsign .entry)) (now (locator .entry)) power ⌝ }
     ensures writes_back { λ r. ⌜ WritesBack r (now (callsign .entry)) (now (locator .entry)) power ⌝ }
     ensures refuses_exactly { λ r. ⌜ RefusesExactly r (now (callsign .entry)) (now (locator .entry)) power ⌝ }
 {
-    let packed = message::pack(callsign, locator, power);
-    if let Packed::Refused(refusal) = packed {
-        return Decoded::Refused(refusal);
+    match u4b::read(callsign, locator, power) {
+        Carried::Numbers(numbers) => codes::read_numbers(numbers),
+        Carried::Refused(refusal) => Decoded::Refused(refusal),
     }
-    let place = callsign::first_foreign(callsign);
-    if place < 6 {
-        return Decoded::Refused(Refusal {
-            number: NOT_TELEMETRY,
-            place: place as u32,
-        });
-    }
-    let position = callsign::position_of(callsign);
-    let sensors = locator::sensors_of(locator, power);
-    codes::read_numbers(callsign[0], callsign[2], position, sensors)
 }

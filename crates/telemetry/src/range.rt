@@ -1,17 +1,18 @@
 // The ranges of what is measured.
 ghost use mathlib.Core.Path.{_≡_};
 ghost use Rattle.basics.specs.Test.{between};
-ghost use Rattle.telemetry.specs.Ranges.{isFirst, temperatureInRange, firstOutOfRange};
+ghost use Rattle.basics.specs.Lists.{firstFalse};
+ghost use Rattle.telemetry.specs.Ranges.{temperatureInRange, firstOutOfRange};
 use super::Measured;
+use u4b::channel::is_first_character;
+use u4b::channel::is_third_character;
 
-// The channel's first character is 0, 1 or Q.
-pub(crate) fn is_first(byte: u8) -> bool
-    ensures { λ r. ⌜ r ≡ isFirst byte ⌝ }
+// A letter of a sub-square, A to X.
+fn is_sub_square(byte: u8) -> bool
+    ensures { λ r. ⌜ r ≡ between 65 88 byte ⌝ }
 {
     match byte {
-        b'0' => true,
-        b'1' => true,
-        b'Q' => true,
+        b'A'..=b'X' => true,
         _ => false,
     }
 }
@@ -30,36 +31,34 @@ fn temperature_in_range(tenths: i32) -> bool
     -500 <= tenths && tenths <= 399
 }
 
+// The index of the first test that is false; past the last where there is none.
+fn first_false(tests: &[bool]) -> usize
+    ensures { λ r. ⌜ r ≡ firstFalse 0 (now (tests .entry)) ⌝ }
+{
+    let mut i = 0;
+    while i < tests.len() {
+        if !tests[i] {
+            return i;
+        }
+        i += 1;
+    }
+    i
+}
+
 // The first input that is out of its range, 0 to 8 in the order of the fields; 9 where none is.
 pub(crate) fn first_out_of_range(m: Measured) -> u32
     ensures { λ r. ⌜ r ≡ firstOutOfRange m ⌝ }
 {
-    if !is_first(m.first) {
-        return 0;
-    }
-    if !is_between(48, 57, m.third as u32) {
-        return 1;
-    }
-    if !is_between(65, 88, m.grid5 as u32) {
-        return 2;
-    }
-    if !is_between(65, 88, m.grid6 as u32) {
-        return 3;
-    }
-    if !is_between(0, 21_359, m.altitude) {
-        return 4;
-    }
-    if !temperature_in_range(m.temperature) {
-        return 5;
-    }
-    if !is_between(3_000, 4_999, m.voltage) {
-        return 6;
-    }
-    if !is_between(0, 839, m.speed) {
-        return 7;
-    }
-    if !is_between(0, 1, m.gps) {
-        return 8;
-    }
-    9
+    let tests = [
+        is_first_character(m.first),
+        is_third_character(m.third),
+        is_sub_square(m.grid5),
+        is_sub_square(m.grid6),
+        is_between(0, 21_359, m.altitude),
+        temperature_in_range(m.temperature),
+        is_between(3_000, 4_999, m.voltage),
+        is_between(0, 839, m.speed),
+        is_between(0, 1, m.gps),
+    ];
+    first_false(&tests) as u32
 }

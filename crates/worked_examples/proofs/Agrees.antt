@@ -2,7 +2,7 @@
 use mathlib.Core.Path.{_≡_, refl}
 use mathlib.Core.Bool.{Bool, true}
 use mathlib.Core.List.{List, [], _∷_}
-use Rattle.basics.specs.Lists.{firstFailing, firstFalse, sameList}
+use Rattle.basics.specs.Lists.{firstFailing, sameList}
 use Rattle.basics.proofs.Choice.{both-true}
 use Rattle.basics.proofs.Tables.{every}
 use Rattle.basics.proofs.ListLaws.{sameList-equal}
@@ -11,11 +11,13 @@ use Rattle.power.specs.Powers.{powers, indexIn, powerIndex, powerAt, legalPower
 use Rattle.message.specs.Character.{value, character, callsignSets, locatorSets, setAt, legalAt, digitAt, characterAt, overPlaces, digitsFrom, charactersFrom}
 use Rattle.message.specs.Word.{callsignRadices, callsignNumber, locatorNumberFrom, locatorNumber, lowerNumber, wordFrom, wordOf}
 use Rattle.message.specs.Answer.{rightLengths, packed, givenNumbers}
-use Rattle.telemetry.specs.Ranges.{isFirst, temperatureInRange, inRanges, firstOutOfRange}
+use Rattle.u4b.specs.Channel.{isFirstCharacter}
+use Rattle.u4b.specs.Characters.{upperRadices, callsignWith, upperOf, lowerRadices, locatorWith, powerWith, lowerOf, telemetryAt, firstNotTelemetry}
+use Rattle.u4b.specs.Answer.{numbersOf, messageCarried, ifPacked, carried}
+use Rattle.telemetry.specs.Ranges.{temperatureInRange, inRanges, firstOutOfRange}
 use Rattle.telemetry.specs.Codes.{altitudeCode, temperatureCode, voltageCode, speedCode, millivolts}
 use Rattle.telemetry.specs.Numbers.{positionRadices, positionDigits, positionNumber, sensorRadices, sensorDigits, sensorNumber}
-use Rattle.telemetry.specs.Characters.{positionPlaces, callsignWith, positionOf, sensorPlaces, locatorWith, powerWith, sensorsOf, basicAt, firstForeign}
-use Rattle.telemetry.specs.Answer.{measuredAnswer, callsignFrom, locatorFrom, numbersAnswer, messageAnswer, ifPacked, decoded, decodedNumbers}
+use Rattle.telemetry.specs.Answer.{measuredAnswer, callsignFrom, locatorFrom, numbersAnswer, carriedAnswer, decoded, decodedNumbers}
 use Rattle.worked_examples.specs.BenchSheet.{Row, bytes, number, text, refused, measuredAt, writeRefused, readRefused, benchSheet, Agrees}
 
 abbrev same : Row → Bool
@@ -30,11 +32,11 @@ agree (r ∷ rs) e =
     (sameList-equal (r .given) (r .stated) (tests .0), agree rs (tests .1))
 
 pub bench-sheet-agrees : Agrees benchSheet
-unfolding sameList firstFailing firstFalse count numberOf numberFrom digitsOf powers indexIn powerIndex powerAt legalPower value character
+unfolding sameList firstFailing count numberOf numberFrom digitsOf powers indexIn powerIndex powerAt legalPower value character
     callsignSets locatorSets setAt legalAt digitAt characterAt overPlaces digitsFrom charactersFrom callsignRadices callsignNumber
-    locatorNumberFrom locatorNumber lowerNumber wordFrom wordOf rightLengths packed givenNumbers isFirst temperatureInRange inRanges
-    firstOutOfRange altitudeCode temperatureCode voltageCode speedCode millivolts positionRadices positionDigits
-    positionNumber sensorRadices sensorDigits sensorNumber positionPlaces callsignWith positionOf sensorPlaces
-    locatorWith powerWith sensorsOf basicAt firstForeign measuredAnswer callsignFrom locatorFrom numbersAnswer messageAnswer ifPacked decoded
+    locatorNumberFrom locatorNumber lowerNumber wordFrom wordOf rightLengths packed givenNumbers isFirstCharacter upperRadices callsignWith
+    upperOf lowerRadices locatorWith powerWith lowerOf telemetryAt firstNotTelemetry numbersOf messageCarried ifPacked carried
+    temperatureInRange inRanges firstOutOfRange altitudeCode temperatureCode voltageCode speedCode millivolts positionRadices positionDigits
+    positionNumber sensorRadices sensorDigits sensorNumber measuredAnswer callsignFrom locatorFrom numbersAnswer carriedAnswer decoded
     decodedNumbers bytes number text refused measuredAt writeRefused readRefused benchSheet
 bench-sheet-agrees = agree benchSheet refl

@@ -9,7 +9,7 @@ use Rattle.message.specs.Word.{callsignNumber, locatorNumber, lowerNumber}
 use Rattle.message.specs.Answer.{givenNumbers}
 use Rattle.telemetry.specs.Codes.{altitudeCode, voltageCode, millivolts}
 use Rattle.telemetry.specs.Numbers.{positionNumber, sensorNumber}
-use Rattle.telemetry.specs.Characters.{callsignWith, locatorWith, powerWith, sensorsOf}
+use Rattle.u4b.specs.Characters.{callsignWith, locatorWith, powerWith, lowerOf}
 use Rattle.telemetry.specs.Answer.{measuredAnswer, callsignFrom, locatorFrom, decoded, decodedNumbers}
 use Rattle.telemetry.specs.declared.Measured.{Measured}
 
@@ -33,7 +33,7 @@ text given stated = record { given = given; stated = bytes stated }
 
 -- A row of a refusal: its number and place.
 unfoldable pub refused : ℕ → ℕ → ℕ → ℕ → Row
-refused number place statedNumber statedPlace = record { given = number ∷ place ∷ []; stated = statedNumber ∷ statedPlace ∷ [] }
+refused n place statedNumber statedPlace = record { given = n ∷ place ∷ []; stated = statedNumber ∷ statedPlace ∷ [] }
 
 -- "channel Q2, SK, 12,340 m, -150, 4,100 mV, 300 tenths, GPS 1", at any altitude
 unfoldable pub measuredAt : ℕ → Measured
@@ -51,15 +51,15 @@ measuredAt altitude = record {
 
 -- A row of a refusal of what is measured.
 unfoldable pub writeRefused : Measured → ℕ → ℕ → Row
-writeRefused m number place =
+writeRefused m statedNumber statedPlace =
     let n = givenNumbers (measuredAnswer m) in
-    refused (n .number) (n .place) number place
+    refused (n .number) (n .place) statedNumber statedPlace
 
 -- A row of a refusal of a message.
 unfoldable pub readRefused : String → String → ℕ → ℕ → ℕ → Row
-readRefused callsign locator power number place =
+readRefused callsign locator power statedNumber statedPlace =
     let n = decodedNumbers (decoded (bytes callsign) (bytes locator) power) in
-    refused (n .number) (n .place) number place
+    refused (n .number) (n .place) statedNumber statedPlace
 
 unfoldable pub benchSheet : List Row
 benchSheet =
@@ -84,7 +84,7 @@ benchSheet =
     ∷ text (locatorWith 604_799) "RM31"
     ∷ number (powerWith 604_799) 33
     ∷ readRefused "0Z0AAH" "RM31" 37 11 0
-    ∷ number (sensorsOf (bytes "RM31") 40) 604_801
+    ∷ number (lowerOf (bytes "RM31") 40) 604_801
     ∷ readRefused "0Z0AAH" "RM31" 40 13 0
     -- 'voltage 3,000 is code 20; 4,999 is code 19; code 0 reads 4,000.'
     ∷ number (voltageCode 3_000) 20

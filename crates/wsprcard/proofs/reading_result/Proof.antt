@@ -7,7 +7,6 @@ use Rattle.telemetry.specs.Answer.{noReading, decodedNumbers}
 use Rattle.telemetry.specs.declared.Decoded.{Decoded}
 use Rattle.wsprcard.specs.Results.{readingResult}
 use borrow.Author.Needs.{needs}
-use borrow.Author.Needs.{needs}
 use Rattle.wsprcard.proofs.reading_result.Statement.{statement}
 use Rattle.wsprcard.proofs.reading_result.Tie as tie
 

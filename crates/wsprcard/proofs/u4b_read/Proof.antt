@@ -2,7 +2,6 @@
 -- Assumes nothing.
 use Rattle.wsprcard.proofs.TelemetryResults.{read-results}
 use borrow.Author.Needs.{needs}
-use borrow.Author.Needs.{needs}
 use Rattle.wsprcard.proofs.u4b_read.Statement.{statement}
 use Rattle.wsprcard.proofs.u4b_read.Tie as tie
 use Rattle.telemetry.proofs.read.Reads as read-reads

@@ -3,7 +3,6 @@
 use mir.Facts.{toZ-ofZ}
 use Rattle.wsprcard.proofs.TelemetryResults.{write-results}
 use borrow.Author.Needs.{needs}
-use borrow.Author.Needs.{needs}
 use Rattle.wsprcard.proofs.u4b_write.Statement.{statement}
 use Rattle.wsprcard.proofs.u4b_write.Tie as tie
 use Rattle.telemetry.proofs.write.Reads as write-reads

@@ -28,7 +28,7 @@ unfolding firstLarge
 returns c =
     let l = c .before .before .before in
     let frame = l .before .args .frame .now in
-    sym (search-failed small frame (l .loop .place) (l .loop .place) (omega arith) (lt-leb (getD frame (l .loop .place) 0) 3 (omega arith))) ∙ l .loop .inv .1
+    sym (search-failed small frame (l .loop .place) (l .loop .place) 0 (omega arith) (lt-leb (getD frame (l .loop .place) 0) 3 (omega arith))) ∙ l .loop .inv .1
 
 add-place : tie.Need-add-place Inv-loop μ-loop
 add-place c = omega arith
@@ -40,7 +40,7 @@ loop-again : tie.Need-loop-again Inv-loop μ-loop
 loop-again c =
     let l = c .before .before .before in
     let frame = l .before .args .frame .now in
-    (omega arith, search-passed small frame (l .loop .place) (l .loop .place) (omega arith) (le-leb (getD frame (l .loop .place) 0) 3 (omega arith)) ∙ l .loop .inv .1)
+    (omega arith, search-passed small frame (l .loop .place) (l .loop .place) 0 (omega arith) (le-leb (getD frame (l .loop .place) 0) 3 (omega arith)) ∙ l .loop .inv .1)
 
 returns-2 : tie.Need-returns-2 Inv-loop μ-loop
 unfolding firstLarge

@@ -43,7 +43,7 @@ returns c =
     let l = c .before .before .before in
     let frame = l .before .before .before .args .frame .now in
     let wrong = ne-eqb _ _ (λ e. c .if1 .taken (e ∙ sym (sync-read l))) in
-    sym (search-failed synced frame (l .loop .place) (l .loop .place) (omega arith) wrong) ∙ l .loop .inv .1
+    sym (search-failed synced frame (l .loop .place) (l .loop .place) 0 (omega arith) wrong) ∙ l .loop .inv .1
 
 add-place : tie.Need-add-place Inv-loop μ-loop
 add-place c = omega arith
@@ -56,7 +56,7 @@ loop-again c =
     let l = c .before .before .before in
     let frame = l .before .before .before .args .frame .now in
     let right = eq-eqb _ _ (c .if1 .left ∙ sync-read l) in
-    (omega arith, search-passed synced frame (l .loop .place) (l .loop .place) (omega arith) right ∙ l .loop .inv .1)
+    (omega arith, search-passed synced frame (l .loop .place) (l .loop .place) 0 (omega arith) right ∙ l .loop .inv .1)
 
 returns-2 : tie.Need-returns-2 Inv-loop μ-loop
 unfolding firstWrongSync

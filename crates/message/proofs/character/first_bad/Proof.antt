@@ -39,7 +39,7 @@ returns : tie.Need-returns Inv-loop μ-loop
 returns c =
     let l = c .before .before .before .before in
     let a = l .before .before .args in
-    sym (search-failed legalAt (a .bytes .now) (l .loop .i) (a .start + l .loop .i) (omega arith) (sym (c .before .is-legal-at .ensures) ∙ not-true _ (c .if1 .taken))) ∙ l .loop .inv .1
+    sym (search-failed legalAt (a .bytes .now) (l .loop .i) (a .start + l .loop .i) 0 (omega arith) (sym (c .before .is-legal-at .ensures) ∙ not-true _ (c .if1 .taken))) ∙ l .loop .inv .1
 
 add-i : tie.Need-add-i Inv-loop μ-loop
 add-i c = omega arith
@@ -51,7 +51,7 @@ loop-again : tie.Need-loop-again Inv-loop μ-loop
 loop-again c =
     let l = c .before .before .before .before in
     let a = l .before .before .args in
-    (omega arith, ap (λ (p : ℕ). firstBad p (drop (l .loop .i + 1) (a .bytes .now))) (omega arith) ∙ search-passed legalAt (a .bytes .now) (l .loop .i) (a .start + l .loop .i) (omega arith) (sym (c .before .is-legal-at .ensures) ∙ not-false _ (c .if1 .left)) ∙ l .loop .inv .1)
+    (omega arith, ap (λ (p : ℕ). firstBad p (drop (l .loop .i + 1) (a .bytes .now))) (omega arith) ∙ search-passed legalAt (a .bytes .now) (l .loop .i) (a .start + l .loop .i) 0 (omega arith) (sym (c .before .is-legal-at .ensures) ∙ not-false _ (c .if1 .left)) ∙ l .loop .inv .1)
 
 add-result-2 : tie.Need-add-result-2 Inv-loop μ-loop
 add-result-2 c = omega arith

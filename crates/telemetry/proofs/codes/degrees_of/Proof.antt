@@ -10,7 +10,6 @@ use mir.Val.{toZ}
 use Rattle.telemetry.specs.Codes.{degrees}
 use Rattle.telemetry.proofs.CodeLaws.{degrees-fits}
 use borrow.Author.Needs.{needs}
-use borrow.Author.Needs.{needs}
 use Rattle.telemetry.proofs.codes.degrees_of.Statement.{statement}
 use Rattle.telemetry.proofs.codes.degrees_of.Tie as tie
 

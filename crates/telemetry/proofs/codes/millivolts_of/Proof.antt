@@ -3,7 +3,6 @@
 use mathlib.Core.Path.{refl}
 use Rattle.telemetry.specs.Codes.{millivolts}
 use borrow.Author.Needs.{needs}
-use borrow.Author.Needs.{needs}
 use Rattle.telemetry.proofs.codes.millivolts_of.Statement.{statement}
 use Rattle.telemetry.proofs.codes.millivolts_of.Tie as tie
 

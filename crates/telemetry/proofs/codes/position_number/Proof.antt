@@ -6,7 +6,6 @@ use Rattle.telemetry.specs.Codes.{altitudeCode}
 use Rattle.telemetry.specs.Numbers.{positionRadices, positionDigits, positionNumber}
 use Rattle.telemetry.proofs.RangeLaws.{in-range}
 use Rattle.telemetry.proofs.NumberLaws.{position-digits, position-count}
-use borrow.Author.Needs.{needs}
 use Rattle.telemetry.proofs.codes.position_number.Statement.{statement}
 use Rattle.telemetry.proofs.codes.position_number.Tie as tie
 use Rattle.radix.proofs.pack.Reads as pack-reads

@@ -4,35 +4,34 @@ use mathlib.Core.Path.{sym, ap, _∙_}
 use borrow.Author.Needs.{needs}
 use Rattle.telemetry.specs.declared.Decoded.{Decoded}
 use Rattle.telemetry.proofs.AnswerLaws.{numbers-extended, numbers-position, numbers-sensors, numbers-reading}
-use borrow.Author.Needs.{needs}
 use Rattle.telemetry.proofs.codes.read_numbers.Statement.{statement}
 use Rattle.telemetry.proofs.codes.read_numbers.Tie as tie
 use Rattle.telemetry.proofs.codes.reading_of.Reads as reading-of-reads
 
 returns : tie.Need-returns
-returns c =
-    let a = c .before .args in
-    sym (numbers-extended (a .first) (a .third) (a .position) (a .sensors) (c .if1 .taken))
+returns c = sym (numbers-extended (c .before .before .args .numbers) (c .if1 .taken))
 
 returns-2 : tie.Need-returns-2
 returns-2 c =
-    let a = c .before .before .args in
-    sym (numbers-position (a .first) (a .third) (a .position) (a .sensors) (c .before .if1 .left) (c .if2 .taken))
+    let k = c .before .before in
+    sym (numbers-position (k .before .before .args .numbers) (k .if1 .left) (c .if2 .taken))
 
 returns-3 : tie.Need-returns-3
 returns-3 c =
-    let a = c .before .before .before .args in
-    sym (numbers-sensors (a .first) (a .third) (a .position) (a .sensors) (c .before .before .if1 .left) (c .before .if2 .left) (c .if3 .taken))
+    let j = c .before .before in
+    let k = j .before .before in
+    sym (numbers-sensors (k .before .before .args .numbers) (k .if1 .left) (j .if2 .left) (c .if3 .taken))
 
 reading-of-requires : tie.Need-reading-of-requires
 reading-of-requires c κs = search needs
 
 returns-4 : tie.Need-returns-4
 returns-4 c =
-    let k = c .before in
-    let a = k .before .before .before .args in
+    let i = c .before in
+    let j = i .before .before in
+    let k = j .before .before in
     ap Decoded.Telemetry (c .reading-of .ensures)
-    ∙ sym (numbers-reading (a .first) (a .third) (a .position) (a .sensors) (k .before .before .if1 .left) (k .before .if2 .left) (k .if3 .left))
+    ∙ sym (numbers-reading (k .before .before .args .numbers) (k .if1 .left) (j .if2 .left) (i .if3 .left))
 
 pub read-numbers-spec : {M : Type 1} → statement M
 read-numbers-spec = tie.close (tie.spec returns returns-2 returns-3 reading-of-requires returns-4)

@@ -17,7 +17,6 @@ use Rattle.telemetry.specs.Numbers.{positionRadices, sensorRadices, read
 use Rattle.telemetry.specs.declared.Reading.{Reading}
 use Rattle.telemetry.proofs.CodeLaws.{degrees-fits}
 use Rattle.telemetry.proofs.NumberLaws.{position-positive, sensor-positive}
-use borrow.Author.Needs.{needs}
 use Rattle.telemetry.proofs.codes.reading_of.Statement.{statement}
 use Rattle.telemetry.proofs.codes.reading_of.Tie as tie
 use Rattle.radix.proofs.unpack.Reads as unpack-reads

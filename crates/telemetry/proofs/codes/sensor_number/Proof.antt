@@ -1,19 +1,15 @@
 -- `telemetry::codes::sensor_number` meets its contract: in range the digits are below their radices, and `radix::pack` makes their number.
 -- Assumes nothing.
-use mathlib.Core.Path.{ap, _∙_}
+use mathlib.Core.Path.{ap, _∙_, _≡_}
 use mir.Facts.{toZ-ofZ}
 use mir.Syntax.{w32}
 use mir.Val.{toZ, ofZ}
-use Rattle.telemetry.specs.Codes.{temperatureCode}
-use Rattle.telemetry.proofs.RangeLaws.{InRange}
-use mathlib.Core.Path.{_≡_}
+use Rattle.telemetry.specs.Codes.{temperatureCode, speedCode}
+use Rattle.telemetry.proofs.RangeLaws.{InRange, in-range}
 use native.Mathlib.Omega.{arith}
 use borrow.Author.Needs.{needs}
-use Rattle.telemetry.specs.Codes.{speedCode}
 use Rattle.telemetry.specs.Numbers.{sensorRadices, sensorDigits, sensorNumber}
-use Rattle.telemetry.proofs.RangeLaws.{in-range}
 use Rattle.telemetry.proofs.NumberLaws.{sensor-digits, sensor-count}
-use borrow.Author.Needs.{needs}
 use Rattle.telemetry.proofs.codes.sensor_number.Statement.{statement}
 use Rattle.telemetry.proofs.codes.sensor_number.Tie as tie
 use Rattle.radix.proofs.pack.Reads as pack-reads

@@ -3,7 +3,6 @@
 use mathlib.Core.Path.{refl}
 use Rattle.telemetry.specs.Codes.{voltageCode}
 use borrow.Author.Needs.{needs}
-use borrow.Author.Needs.{needs}
 use Rattle.telemetry.proofs.codes.voltage_code.Statement.{statement}
 use Rattle.telemetry.proofs.codes.voltage_code.Tie as tie
 

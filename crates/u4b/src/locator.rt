@@ -1,40 +1,40 @@
-// The number of temperature, voltage, speed and GPS in a locator and a power.
+// The lower number in a locator and a power.
 ghost use mathlib.Core.Path.{_≡_};
 ghost use mathlib.Core.Bool.{true};
 ghost use lib.ListN.{length};
 ghost use Rattle.message.specs.Character.{firstBad};
 ghost use Rattle.power.specs.Powers.{legalPower};
-ghost use Rattle.telemetry.specs.Characters.{locatorWith, powerWith, sensorsOf};
+ghost use Rattle.u4b.specs.Characters.{locatorWith, powerWith, lowerOf};
 use message::character::read_digits;
 use message::character::write_characters;
 
 // For places 6 to 9 and the power's index.
-const SENSOR_PLACES: [u64; 5] = [18, 18, 10, 10, 19];
+const LOWER_RADICES: [u64; 5] = [18, 18, 10, 10, 19];
 
 // Writes the locator with the number; its power is returned.
-pub(crate) fn write_locator(sensors: u64, locator: &mut [u8]) -> u32
+pub(crate) fn write_locator(lower: u64, locator: &mut [u8]) -> u32
     requires { ⌜ length (now locator) ≡ 4 ⌝ }
-    ensures its_power { λ r. ⌜ r ≡ powerWith sensors ⌝ }
-    ensures its_locator { λ _. ⌜ now (locator .exit) ≡ locatorWith sensors ⌝ }
+    ensures its_power { λ r. ⌜ r ≡ powerWith lower ⌝ }
+    ensures its_locator { λ _. ⌜ now (locator .exit) ≡ locatorWith lower ⌝ }
 {
     let mut s = [0u64; 5];
-    radix::unpack(sensors, &SENSOR_PLACES, &mut s);
+    radix::unpack(lower, &LOWER_RADICES, &mut s);
     write_characters(6, &[s[0], s[1], s[2], s[3]], locator);
     power::power_at(s[4] as u32)
 }
 
-// The number of temperature, voltage, speed and GPS in a locator and a power.
-pub(crate) fn sensors_of(locator: &[u8], power: u32) -> u64
+// The lower number in a locator and a power.
+pub(crate) fn lower_of(locator: &[u8], power: u32) -> u64
     requires { ⌜ length (now locator) ≡ 4 ⌝ }
     requires { ⌜ firstBad 6 (now locator) ≡ 10 ⌝ }
     requires { ⌜ legalPower power ≡ true ⌝ }
-    ensures { λ r. ⌜ r ≡ sensorsOf (now (locator .entry)) power ⌝ }
+    ensures { λ r. ⌜ r ≡ lowerOf (now (locator .entry)) power ⌝ }
 {
     let mut values = [0u64; 4];
     read_digits(6, locator, &mut values);
     let index = power::index_of(power) as u64;
     radix::pack(
-        &SENSOR_PLACES,
+        &LOWER_RADICES,
         &[values[0], values[1], values[2], values[3], index],
     )
 }

@@ -1,4 +1,4 @@
--- `telemetry::locator::write_locator` meets its contract: `radix::unpack` gives the number's digits; four are in their places' sets, and
+-- `u4b::locator::write_locator` meets its contract: `radix::unpack` gives the number's digits; four are in their places' sets, and
 -- `write_characters` writes their characters; the fifth is the power's index.
 -- Assumes nothing.
 use mathlib.Core.Path.{_≡_, refl, sym, ap, _∙_}
@@ -10,17 +10,16 @@ use Rattle.radix.specs.Numeral.{digitsOf}
 use lib.ListN.{getD}
 use Rattle.power.specs.Powers.{powerAt}
 use Rattle.message.specs.Character.{charactersFrom}
-use Rattle.telemetry.specs.Characters.{sensorPlaces, locatorWith, powerWith}
-use Rattle.telemetry.proofs.LocatorLaws.{fourDigits, locator-positive, four-digits-at, index-below}
-use borrow.Author.Needs.{needs}
-use Rattle.telemetry.proofs.locator.write_locator.Statement.{statement}
-use Rattle.telemetry.proofs.locator.write_locator.Tie as tie
+use Rattle.u4b.specs.Characters.{lowerRadices, locatorWith, powerWith}
+use Rattle.u4b.proofs.LocatorLaws.{fourDigits, lower-positive, four-digits-at, index-below}
+use Rattle.u4b.proofs.locator.write_locator.Statement.{statement}
+use Rattle.u4b.proofs.locator.write_locator.Tie as tie
 use Rattle.message.proofs.character.write_characters.Reads as write-characters-reads
 use Rattle.power.proofs.power_at.Reads as power-at-reads
 use Rattle.radix.proofs.unpack.Reads as unpack-reads
 
-its-digits : (c : tie.After-unpack) → c .unpack .last .1 .1 .0 ≡ digitsOf sensorPlaces (c .before .before .before .before .args .sensors)
-unfolding sensorPlaces
+its-digits : (c : tie.After-unpack) → c .unpack .last .1 .1 .0 ≡ digitsOf lowerRadices (c .before .before .before .before .args .lower)
+unfolding lowerRadices
 its-digits c = c .unpack .ensures .1
 
 slice-aggregate-unpack : tie.Need-slice-aggregate-unpack
@@ -30,8 +29,8 @@ slice-aggregate-unpack-2 : tie.Need-slice-aggregate-unpack-2
 slice-aggregate-unpack-2 c = search needs
 
 unpack-requires : tie.Need-unpack-requires
-unfolding sensorPlaces
-unpack-requires c κs = (locator-positive, refl)
+unfolding lowerRadices
+unpack-requires c κs = (lower-positive, refl)
 
 array-read-power-at : tie.Need-array-read-power-at
 array-read-power-at c = search needs
@@ -52,7 +51,7 @@ write-characters-requires : tie.Need-write-characters-requires
 write-characters-requires c κs =
     let u = c .before .before .before in
     let a = u .before .before .before .before in
-    rw (its-digits u) (omega (arith, a .pre), (sym (a .pre), four-digits-at (a .args .sensors)))
+    rw (its-digits u) (omega (arith, a .pre), (sym (a .pre), four-digits-at (a .args .lower)))
 
 array-read-power-at-2 : tie.Need-array-read-power-at-2
 array-read-power-at-2 c = search needs
@@ -60,7 +59,7 @@ array-read-power-at-2 c = search needs
 cast-power-at : tie.Need-cast-power-at
 cast-power-at c =
     let u = c .before .before .before .before .before .before in
-    record { fits = rw (its-digits u) (omega (arith, index-below (u .before .before .before .before .args .sensors))) }
+    record { fits = rw (its-digits u) (omega (arith, index-below (u .before .before .before .before .args .lower))) }
 
 power-at-requires : tie.Need-power-at-requires
 power-at-requires c κs = search needs

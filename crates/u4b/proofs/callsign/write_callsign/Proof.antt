@@ -1,4 +1,4 @@
--- `telemetry::callsign::write_callsign` meets its contract: `radix::unpack` gives the number's digits; with those of the channel's
+-- `u4b::callsign::write_callsign` meets its contract: `radix::unpack` gives the number's digits; with those of the channel's
 -- characters they are in their places' sets, and `write_characters` writes their characters.
 -- Assumes nothing.
 use mathlib.Core.Path.{_≡_, refl, sym, ap, _∙_}
@@ -8,17 +8,16 @@ use mathlib.Core.List.{List}
 use borrow.Author.Needs.{needs}
 use Rattle.radix.specs.Numeral.{digitsOf}
 use Rattle.message.specs.Character.{charactersFrom}
-use Rattle.telemetry.specs.Characters.{positionPlaces, callsignWith}
-use Rattle.telemetry.proofs.CallsignLaws.{sixDigits, callsign-positive, six-digits-at}
-use borrow.Author.Needs.{needs}
-use Rattle.telemetry.proofs.callsign.write_callsign.Statement.{statement}
-use Rattle.telemetry.proofs.callsign.write_callsign.Tie as tie
+use Rattle.u4b.specs.Characters.{upperRadices}
+use Rattle.u4b.proofs.CallsignLaws.{sixDigits, upper-positive, six-digits-at, callsignWith-characters}
+use Rattle.u4b.proofs.callsign.write_callsign.Statement.{statement}
+use Rattle.u4b.proofs.callsign.write_callsign.Tie as tie
 use Rattle.message.proofs.character.digit_at.Reads as digit-at-reads
 use Rattle.message.proofs.character.write_characters.Reads as write-characters-reads
 use Rattle.radix.proofs.unpack.Reads as unpack-reads
 
-its-digits : (c : tie.After-unpack) → c .unpack .last .1 .1 .0 ≡ digitsOf positionPlaces (c .before .before .before .before .args .position)
-unfolding positionPlaces
+its-digits : (c : tie.After-unpack) → c .unpack .last .1 .1 .0 ≡ digitsOf upperRadices (c .before .before .before .before .args .upper)
+unfolding upperRadices
 its-digits c = c .unpack .ensures .1
 
 slice-aggregate-unpack : tie.Need-slice-aggregate-unpack
@@ -28,8 +27,8 @@ slice-aggregate-unpack-2 : tie.Need-slice-aggregate-unpack-2
 slice-aggregate-unpack-2 c = search needs
 
 unpack-requires : tie.Need-unpack-requires
-unfolding positionPlaces
-unpack-requires c κs = (callsign-positive, refl)
+unfolding upperRadices
+unpack-requires c κs = (upper-positive, refl)
 
 digit-at-requires : tie.Need-digit-at-requires
 digit-at-requires c κs = search needs
@@ -59,13 +58,12 @@ write-characters-requires c κs =
     let u = f .before .before in
     let a = u .before .before .before .before in
     rw (t .digit-at2 .ensures, f .digit-at .ensures, its-digits u)
-    (omega (arith, a .pre .0), (sym (a .pre .0), six-digits-at (a .args .first) (a .args .third) (a .pre .1 .0) (a .pre .1 .1) (a .args .position)))
+    (omega (arith, a .pre .0), (sym (a .pre .0), six-digits-at (a .args .first) (a .args .third) (a .pre .1 .0) (a .pre .1 .1) (a .args .upper)))
 
 same-length : tie.Need-same-length
 same-length c = search needs
 
 returns : tie.Need-returns
-unfolding callsignWith
 returns c =
     let w = c .before .before in
     let t = w .before .before .before in
@@ -74,6 +72,7 @@ returns c =
     let a = u .before .before .before .before in
     w .write-characters .ensures
     ∙ rw (t .digit-at2 .ensures, f .digit-at .ensures) (ap (λ (p : List ℕ). charactersFrom 0 (sixDigits (a .args .first) (a .args .third) p)) (its-digits u))
+    ∙ sym (callsignWith-characters (a .args .first) (a .args .third) (a .pre .1 .0) (a .pre .1 .1) (a .args .upper))
 
 pub write-callsign-spec : {M : Type 1} → statement M
 write-callsign-spec =

@@ -1,4 +1,4 @@
--- `telemetry::callsign::position_of` meets its contract: the digits of places 1, 3, 4, 5 are below their radices, and `radix::pack` makes their
+-- `u4b::callsign::upper_of` meets its contract: the digits of places 1, 3, 4, 5 are below their radices, and `radix::pack` makes their
 -- number.
 -- Assumes nothing.
 use mathlib.Core.Path.{ap, _∙_}
@@ -6,12 +6,13 @@ use Prim.Native.Nat.{ℕ}
 use native.Mathlib.Omega.{arith}
 use mathlib.Core.List.{List}
 use borrow.Author.Needs.{needs}
+use Rattle.basics.proofs.ListLaws.{all-pass}
+use Rattle.message.specs.Character.{legalAt}
 use Rattle.radix.specs.Numeral.{numberOf}
-use Rattle.telemetry.specs.Characters.{positionPlaces, positionOf}
-use Rattle.telemetry.proofs.CallsignLaws.{fourDigits, callsign-count, position-digits-in}
-use borrow.Author.Needs.{needs}
-use Rattle.telemetry.proofs.callsign.position_of.Statement.{statement}
-use Rattle.telemetry.proofs.callsign.position_of.Tie as tie
+use Rattle.u4b.specs.Characters.{upperRadices, upperOf}
+use Rattle.u4b.proofs.CallsignLaws.{fourDigits, upper-count, upper-digits-in}
+use Rattle.u4b.proofs.callsign.upper_of.Statement.{statement}
+use Rattle.u4b.proofs.callsign.upper_of.Tie as tie
 use Rattle.message.proofs.character.read_digits.Reads as read-digits-reads
 use Rattle.radix.proofs.pack.Reads as pack-reads
 
@@ -40,20 +41,20 @@ slice-aggregate-pack-2 : tie.Need-slice-aggregate-pack-2
 slice-aggregate-pack-2 c = search needs
 
 pack-requires : tie.Need-pack-requires
-unfolding positionPlaces
+unfolding upperRadices
 pack-requires c κs =
     let r = c .before .before .before in
     let a = r .before .before .before in
-    (rw (r .read-digits .ensures) (position-digits-in (a .args .callsign .now) (a .pre .0) (a .pre .1 .0) (a .pre .1 .1)), omega (arith, callsign-count))
+    (rw (r .read-digits .ensures) (upper-digits-in (a .args .callsign .now) (a .pre .0) (all-pass legalAt 0 _ (omega arith)) (a .pre .1 .1)), omega (arith, upper-count))
 
 returns : tie.Need-returns
-unfolding positionPlaces positionOf
+unfolding upperRadices upperOf
 returns c =
     let r = c .before .before .before .before in
-    c .pack .ensures ∙ ap (λ (d : List ℕ). numberOf positionPlaces (fourDigits d)) (r .read-digits .ensures)
+    c .pack .ensures ∙ ap (λ (d : List ℕ). numberOf upperRadices (fourDigits d)) (r .read-digits .ensures)
 
-pub position-of-spec : {M : Type 1} → statement M
-position-of-spec =
+pub upper-of-spec : {M : Type 1} → statement M
+upper-of-spec =
     tie.close
     (tie.spec
     slice-aggregate-read-digits

@@ -1,16 +1,17 @@
--- `telemetry::locator::sensors_of` meets its contract: the digits of the four places and the power's index are below their radices, and
+-- `u4b::locator::lower_of` meets its contract: the digits of the four places and the power's index are below their radices, and
 -- `radix::pack` makes their number.
 -- Assumes nothing.
 use mathlib.Core.Path.{_∙_}
 use native.Mathlib.Omega.{arith}
 use borrow.Author.Needs.{needs}
-use Rattle.telemetry.specs.Characters.{sensorPlaces, sensorsOf}
-use Rattle.telemetry.proofs.LocatorLaws.{locator-count, sensor-digits-in}
-use borrow.Author.Needs.{needs}
-use Rattle.telemetry.proofs.locator.sensors_of.Statement.{statement}
-use Rattle.telemetry.proofs.locator.sensors_of.Tie as tie
+use Rattle.u4b.specs.Characters.{lowerRadices, lowerOf}
+use Rattle.u4b.proofs.LocatorLaws.{lower-count, lower-digits-in}
+use Rattle.u4b.proofs.locator.lower_of.Statement.{statement}
+use Rattle.u4b.proofs.locator.lower_of.Tie as tie
 use Rattle.message.proofs.character.read_digits.Reads as read-digits-reads
 use Rattle.power.proofs.index_of.Reads as index-of-reads
+use Rattle.basics.proofs.ListLaws.{all-pass}
+use Rattle.message.specs.Character.{legalAt}
 use Rattle.radix.proofs.pack.Reads as pack-reads
 
 slice-aggregate-read-digits : tie.Need-slice-aggregate-read-digits
@@ -44,22 +45,22 @@ slice-aggregate-pack-2 : tie.Need-slice-aggregate-pack-2
 slice-aggregate-pack-2 c = search needs
 
 pack-requires : tie.Need-pack-requires
-unfolding sensorPlaces
+unfolding lowerRadices
 pack-requires c κs =
     let i = c .before .before in
     let r = i .before .before in
     let a = r .before .before .before in
-    (rw (r .read-digits .ensures, i .index-of .ensures) (sensor-digits-in (a .args .locator .now) (a .args .power) (a .pre .0) (a .pre .1 .0) (a .pre .1 .1)), omega (arith, locator-count))
+    (rw (r .read-digits .ensures, i .index-of .ensures) (lower-digits-in (a .args .locator .now) (a .args .power) (a .pre .0) (all-pass legalAt 6 _ (omega arith)) (a .pre .1 .1)), omega (arith, lower-count))
 
 returns : tie.Need-returns
-unfolding sensorPlaces sensorsOf
+unfolding lowerRadices lowerOf
 returns c =
     let i = c .before .before .before in
     let r = i .before .before in
     c .pack .ensures ∙ rw (r .read-digits .ensures, i .index-of .ensures)
 
-pub sensors-of-spec : {M : Type 1} → statement M
-sensors-of-spec =
+pub lower-of-spec : {M : Type 1} → statement M
+lower-of-spec =
     tie.close
     (tie.spec
     slice-aggregate-read-digits

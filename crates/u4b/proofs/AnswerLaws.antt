@@ -1,0 +1,125 @@
+-- The cases of the definition of the answer, and writing and reading, one after the other: what was written is read, and what is read is
+-- what writing makes.
+use mathlib.Core.Path.{_≡_, refl, sym, _∙_}
+use Prim.Native.Nat.{ℕ, _≤_, _<_}
+use native.Mathlib.Omega.{arith}
+use mathlib.Core.Bool.{true}
+use mathlib.Core.List.{List}
+use lib.Dec.{ltb}
+use lib.ListN.{length}
+use borrow.Author.Tests.{lt-ltb, le-ltb, ltb-false}
+use Rattle.basics.proofs.Choice.{cond-passed, cond-both}
+use Rattle.basics.proofs.ListLaws.{all-pass, none-fails}
+use Rattle.refusal.specs.declared.Refusal.{Refusal}
+use Rattle.refusal.specs.Refusals.{refusal, notTelemetry}
+use Rattle.message.specs.Word.{wordOf}
+use Rattle.message.specs.Answer.{packed, packedNumbers}
+use Rattle.message.specs.declared.Packed.{Packed}
+use Rattle.message.proofs.AnswerLaws.{Legal, right-lengths, legal-whole, packed-word, legal-of-packed, packed-answered, refused-no-word}
+use Rattle.u4b.specs.Channel.{isFirstCharacter, isThirdCharacter}
+use Rattle.u4b.specs.Characters.{callsignWith, locatorWith, powerWith, telemetryAt, firstNotTelemetry}
+use Rattle.u4b.specs.Answer.{numbersOf, messageCarried, ifPacked, carried}
+use Rattle.u4b.specs.declared.Numbers.{Numbers}
+use Rattle.u4b.specs.declared.Carried.{Carried}
+use Rattle.u4b.proofs.CallsignLaws.{callsignWith-length, callsignWith-legal, callsignWith-telemetry, upperOf-callsignWith, first-of, third-of, callsignWith-upperOf}
+use Rattle.u4b.proofs.LocatorLaws.{locatorWith-length, locatorWith-legal, powerWith-legal, lowerOf-locatorWith, locatorWith-lowerOf, powerWith-lowerOf}
+
+-- ---- The cases
+
+module _ (callsign locator : List ℕ) (power : ℕ) where
+  pub carried-refused : (f : Refusal) → packed callsign locator power ≡ Packed.Refused f → carried callsign locator power ≡ Carried.Refused f
+  unfolding carried ifPacked
+  carried-refused f e = rw e
+
+  module _ (word : ℕ) (is-packed : packed callsign locator power ≡ Packed.Word word) where
+    carried-message : carried callsign locator power ≡ messageCarried callsign locator power
+    unfolding carried ifPacked
+    carried-message = rw is-packed
+
+    pub carried-not-telemetry : (place : ℕ) → firstNotTelemetry callsign ≡ place → place < 6
+        → carried callsign locator power ≡ Carried.Refused (refusal notTelemetry place)
+    unfolding messageCarried
+    carried-not-telemetry place e h = carried-message ∙ rw (e, lt-ltb place 6 h)
+
+    pub carried-numbers : 6 ≤ firstNotTelemetry callsign → carried callsign locator power ≡ Carried.Numbers (numbersOf callsign locator power)
+    unfolding messageCarried
+    carried-numbers h = carried-message ∙ rw (le-ltb _ 6 h)
+
+-- A callsign has six characters, so that a first place past them says that there is none.
+pub all-telemetry : (callsign : List ℕ) → length callsign ≡ 6 → 6 ≤ firstNotTelemetry callsign → firstNotTelemetry callsign ≡ 6
+unfolding firstNotTelemetry
+all-telemetry callsign six h = omega (arith, none-fails telemetryAt 0 callsign (all-pass telemetryAt 0 callsign (omega arith)))
+
+-- ---- What was written is read
+
+module _ (first third upper lower : ℕ) (is-first : isFirstCharacter first ≡ true) (is-third : isThirdCharacter third ≡ true) where
+  -- What is written is a message of legal characters and power.
+  written-packed : packed (callsignWith first third upper) (locatorWith lower) (powerWith lower)
+      ≡ Packed.Word (wordOf (callsignWith first third upper) (locatorWith lower) (powerWith lower))
+  written-packed =
+      let six = callsignWith-length first third upper in
+      let four = locatorWith-length lower in
+      packed-word _ _ _ (right-lengths (callsignWith first third upper) (locatorWith lower) six four)
+      (legal-whole _ _ six four (callsignWith-legal first third is-first is-third upper) (locatorWith-legal lower)) (powerWith-legal lower)
+
+  pub read-write : upper < 632_736 → lower < 615_600
+      → carried (callsignWith first third upper) (locatorWith lower) (powerWith lower)
+      ≡ Carried.Numbers (record { first = first; third = third; upper = upper; lower = lower })
+  unfolding numbersOf callsignWith
+  read-write h k =
+      carried-numbers _ _ _ _ written-packed (omega (arith, callsignWith-telemetry first third is-first is-third upper))
+      ∙ rw (upperOf-callsignWith first third is-first is-third upper h, lowerOf-locatorWith lower k)
+
+-- ---- What is read is what writing makes
+
+-- The message that writing makes of the numbers.
+pub record Carries (callsign locator : List ℕ) (power : ℕ) (n : Numbers) : Type 0 where
+  pub is-first : isFirstCharacter (n .first) ≡ true
+  pub is-third : isThirdCharacter (n .third) ≡ true
+  pub its-callsign : callsignWith (n .first) (n .third) (n .upper) ≡ callsign
+  pub its-locator : locatorWith (n .lower) ≡ locator
+  pub its-power : powerWith (n .lower) ≡ power
+
+refused-no-numbers : (f : Refusal) (n : Numbers) → Carried.Refused f ≡ Carried.Numbers n → ⊥
+refused-no-numbers f n e = let z : _≡_ {A = ℕ} 0 1 = cc in omega arith
+
+carries : (callsign locator : List ℕ) (power : ℕ) (n : Numbers) → Legal callsign locator power
+    → messageCarried callsign locator power ≡ Carried.Numbers n → Carries callsign locator power n
+unfolding messageCarried numbersOf
+carries callsign locator power n l e =
+    let tests = cond-passed (ltb (firstNotTelemetry callsign) 6) e (refused-no-numbers _ n) in
+    let telemetry = all-telemetry callsign (l .six) (ltb-false _ _ (tests .0)) in
+    let same : n ≡ numbersOf callsign locator power = cc in
+    rw same (record {
+      is-first = first-of callsign (l .six) (l .callsign-legal) telemetry;
+      is-third = third-of callsign (l .six) (l .callsign-legal) telemetry;
+      its-callsign = callsignWith-upperOf callsign (l .six) (l .callsign-legal) telemetry;
+      its-locator = locatorWith-lowerOf locator power (l .four) (l .locator-legal) (l .power-legal);
+      its-power = powerWith-lowerOf locator power (l .four) (l .locator-legal) (l .power-legal);
+    })
+
+pub write-read : (callsign locator : List ℕ) (power : ℕ) (n : Numbers) → carried callsign locator power ≡ Carried.Numbers n
+    → Carries callsign locator power n
+write-read callsign locator power n e = go (packed callsign locator power) refl
+  where
+    go : (answer : Packed) → packed callsign locator power ≡ answer → Carries callsign locator power n
+    go (Packed.Word w) p =
+        carries callsign locator power n (legal-of-packed callsign locator power w p .0) (sym (carried-message callsign locator power w p) ∙ e)
+    go (Packed.Refused f) p = absurd (refused-no-numbers f n (sym (carried-refused callsign locator power f p) ∙ e))
+
+-- ---- No refusal has the number 0
+
+Nonzero : Carried → Type 0
+Nonzero answer = (f : Refusal) → answer ≡ Carried.Refused f → f .number ≡ 0 → ⊥
+
+nonzero-if : (answer : Packed) (d : Carried) → (packedNumbers answer .number ≡ 0 → answer ≡ Packed.Word (packedNumbers answer .word)) → Nonzero d
+    → Nonzero (ifPacked answer d)
+unfolding Nonzero ifPacked packedNumbers
+nonzero-if (Packed.Word w) d h k = k
+nonzero-if (Packed.Refused g) d h k = λ f e z. let same : g .number ≡ f .number = cc in refused-no-word g _ (h (same ∙ z))
+
+pub refused-nonzero : (callsign locator : List ℕ) (power : ℕ) (f : Refusal) → carried callsign locator power ≡ Carried.Refused f → f .number ≡ 0 → ⊥
+unfolding Nonzero carried messageCarried
+refused-nonzero callsign locator power =
+    nonzero-if (packed callsign locator power) (messageCarried callsign locator power) (packed-answered callsign locator power)
+    (cond-both Nonzero (ltb (firstNotTelemetry callsign) 6) (λ f e z. let n : notTelemetry ≡ f .number = cc in omega arith) (λ f e z. refused-no-numbers f _ (sym e)))

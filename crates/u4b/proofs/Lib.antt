@@ -1,0 +1,5 @@
+-- `CallsignLaws`, `LocatorLaws`: the two numbers in a message and back. `AnswerLaws`: the cases of the answer, and writing and reading, one
+-- after the other.
+pub mod CallsignLaws
+pub mod LocatorLaws
+pub mod AnswerLaws

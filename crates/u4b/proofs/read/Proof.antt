@@ -1,0 +1,104 @@
+-- `u4b::read` meets its contract: what isn't packed is refused as it was; of what is, each step is the definition's.
+-- Assumes nothing.
+use mathlib.Core.Path.{_≡_, sym, _∙_}
+use native.Mathlib.Omega.{arith}
+use borrow.Author.Needs.{needs}
+use Rattle.basics.proofs.ListLaws.{none-fails}
+use Rattle.message.specs.Character.{legalAt}
+use Rattle.message.specs.Answer.{packed}
+use Rattle.message.specs.declared.Packed.{Packed}
+use Rattle.message.proofs.AnswerLaws.{Legal, legal-of-packed}
+use Rattle.u4b.specs.Answer.{numbersOf}
+use Rattle.u4b.proofs.AnswerLaws.{carried-refused, carried-not-telemetry, carried-numbers, all-telemetry}
+use Rattle.u4b.proofs.read.Statement.{statement}
+use Rattle.u4b.proofs.read.Tie as tie
+use Rattle.message.proofs.pack.Reads as pack-reads
+use Rattle.u4b.proofs.callsign.first_not_telemetry.Reads as first-not-telemetry-reads
+use Rattle.u4b.proofs.callsign.upper_of.Reads as upper-of-reads
+use Rattle.u4b.proofs.locator.lower_of.Reads as lower-of-reads
+
+-- Past the first test the message is packed.
+its-word : (c : tie.After-enum-told) → let a = c .before .before .before .before .before .args in
+    packed (a .callsign .now) (a .locator .now) (a .power) ≡ Packed.Word (c .enum-told .given .0 .0)
+its-word c = sym (c .before .before .pack .ensures .0) ∙ c .enum-told .given .1
+
+its-legal : (c : tie.After-enum-told) → let a = c .before .before .before .before .before .args in
+    Legal (a .callsign .now) (a .locator .now) (a .power)
+its-legal c =
+    let a = c .before .before .before .before .before .args in
+    legal-of-packed (a .callsign .now) (a .locator .now) (a .power) _ (its-word c) .0
+
+pack-requires : tie.Need-pack-requires
+pack-requires c κs = search needs
+
+enum-known-packed : tie.Need-enum-known-packed
+enum-known-packed c = search needs
+
+returns : tie.Need-returns
+returns c =
+    let p = c .before .before .before in
+    let a = p .before .before .before .args in
+    sym (carried-refused (a .callsign .now) (a .locator .now) (a .power) _ (sym (p .pack .ensures .0) ∙ c .before .packed .given .1))
+
+enum-told : tie.Need-enum-told
+enum-told c = search needs
+
+first-not-telemetry-requires : tie.Need-first-not-telemetry-requires
+first-not-telemetry-requires c κs = search needs
+
+cast-t8 : tie.Need-cast-t8
+cast-t8 c = search needs
+
+returns-2 : tie.Need-returns-2
+returns-2 c =
+    let k = c .before .before in
+    let a = k .before .before .before .before .before .args in
+    sym (carried-not-telemetry (a .callsign .now) (a .locator .now) (a .power) _ (its-word k) _ (sym (c .before .first-not-telemetry .ensures)) (c .if1 .taken))
+
+shared-slice-read-t11 : tie.Need-shared-slice-read-t11
+shared-slice-read-t11 c =
+    let l = its-legal (c .before .before .before) in
+    omega (arith, l .six)
+
+shared-slice-read-t13 : tie.Need-shared-slice-read-t13
+shared-slice-read-t13 c =
+    let l = its-legal (c .before .before .before .before) in
+    omega (arith, l .six)
+
+upper-of-requires : tie.Need-upper-of-requires
+upper-of-requires c κs =
+    let e = c .before .before in
+    let l = its-legal (e .before .before) in
+    (l .six, (omega (arith, l .six, none-fails legalAt 0 _ (l .callsign-legal)), all-telemetry _ (l .six) (omega (arith, e .before .first-not-telemetry .ensures))))
+
+lower-of-requires : tie.Need-lower-of-requires
+lower-of-requires c κs =
+    let l = its-legal (c .before .before .before .before .before) in
+    (l .four, (omega (arith, l .four, none-fails legalAt 6 _ (l .locator-legal)), l .power-legal))
+
+returns-3 : tie.Need-returns-3
+unfolding numbersOf
+returns-3 c =
+    let u = c .before in
+    let e = u .before .before .before in
+    let k = e .before .before in
+    let a = k .before .before .before .before .before .args in
+    rw (u .upper-of .ensures, c .lower-of .ensures)
+    (sym (carried-numbers (a .callsign .now) (a .locator .now) (a .power) _ (its-word k) (omega (arith, e .before .first-not-telemetry .ensures))))
+
+pub read-spec : {M : Type 1} → statement M
+read-spec =
+    tie.close
+    (tie.spec
+    pack-requires
+    enum-known-packed
+    returns
+    enum-told
+    first-not-telemetry-requires
+    cast-t8
+    returns-2
+    shared-slice-read-t11
+    shared-slice-read-t13
+    upper-of-requires
+    lower-of-requires
+    returns-3)

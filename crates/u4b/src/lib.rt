@@ -1,0 +1,68 @@
+// A U4B message: the channel's two characters and two numbers, in a WSPR message and back. The upper
+// number stands in the callsign, the lower one in the locator and the power.
+mod callsign;
+pub mod channel;
+mod locator;
+
+ghost use mathlib.Core.Path.{_≡_};
+ghost use mathlib.Core.Bool.{true};
+ghost use lib.ListN.{length};
+ghost use Rattle.u4b.specs.Channel.{isFirstCharacter, isThirdCharacter};
+ghost use Rattle.u4b.specs.Characters.{callsignWith, locatorWith, powerWith};
+ghost use Rattle.u4b.specs.Answer.{carried};
+use message::Packed;
+use refusal::NOT_TELEMETRY;
+use refusal::Refusal;
+
+// The channel's first and third character, and the two numbers: below 632,736 and 615,600 where they
+// are a message's.
+pub struct Numbers {
+    pub first: u8,
+    pub third: u8,
+    pub upper: u64,
+    pub lower: u64,
+}
+
+// The answer of `read`.
+pub enum Carried {
+    Numbers(Numbers),
+    Refused(Refusal),
+}
+
+// Writes the callsign and the locator with the numbers; their power is returned. Of each number only
+// what is below its end is written.
+pub fn write(numbers: Numbers, callsign: &mut [u8], locator: &mut [u8]) -> u32
+    requires { ⌜ length (now callsign) ≡ 6 ⌝ }
+    requires { ⌜ length (now locator) ≡ 4 ⌝ }
+    requires { ⌜ isFirstCharacter (numbers .first) ≡ true ⌝ }
+    requires { ⌜ isThirdCharacter (numbers .third) ≡ true ⌝ }
+    ensures power { λ r. ⌜ r ≡ powerWith (numbers .lower) ⌝ }
+    ensures callsign_after { λ _. ⌜ now (callsign .exit) ≡ callsignWith (numbers .first) (numbers .third) (numbers .upper) ⌝ }
+    ensures locator_after { λ _. ⌜ now (locator .exit) ≡ locatorWith (numbers .lower) ⌝ }
+{
+    callsign::write_callsign(numbers.first, numbers.third, numbers.upper, callsign);
+    locator::write_locator(numbers.lower, locator)
+}
+
+// The numbers of a message. What isn't a message is refused as when it is packed.
+pub fn read(callsign: &[u8], locator: &[u8], power: u32) -> Carried
+    ensures { λ r. ⌜ r ≡ carried (now (callsign .entry)) (now (locator .entry)) power ⌝ }
+{
+    let packed = message::pack(callsign, locator, power);
+    if let Packed::Refused(refusal) = packed {
+        return Carried::Refused(refusal);
+    }
+    let place = callsign::first_not_telemetry(callsign);
+    if place < 6 {
+        return Carried::Refused(Refusal {
+            number: NOT_TELEMETRY,
+            place: place as u32,
+        });
+    }
+    Carried::Numbers(Numbers {
+        first: callsign[0],
+        third: callsign[2],
+        upper: callsign::upper_of(callsign),
+        lower: locator::lower_of(locator, power),
+    })
+}
