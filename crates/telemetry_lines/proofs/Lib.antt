@@ -1,0 +1,6 @@
+-- `PutLaws`: text in a buffer, piece by piece. `TextLaws`: numbers as text, and the bounds of a line of output. `LineLaws`: the form of a
+-- line and the bytes kept of it. `StreamLaws`: an input in parts.
+mod PutLaws
+mod TextLaws
+mod LineLaws
+mod StreamLaws

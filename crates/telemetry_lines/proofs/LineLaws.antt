@@ -1,0 +1,1 @@
+-- Laws of a line: its form test by test, and the bytes kept of it.

@@ -1,0 +1,37 @@
+-- `telemetry_lines::output::put_reading` meets its contract: its parts are put one after the other.
+-- Assumes nothing.
+use native.Mathlib.Omega.{arith}
+use lib.ListN.{length}
+use Rattle.telemetry_lines.proofs.PutLaws.{put-then, put-length}
+use Rattle.telemetry_lines.proofs.TextLaws.{length-position, length-sensors, reading-parts}
+use Rattle.telemetry_lines.proofs.PutLaws.{put-then}
+use Rattle.telemetry_lines.proofs.TextLaws.{reading-parts}
+use borrow.Author.Needs.{needs}
+use Rattle.telemetry_lines.proofs.output.put_reading.Statement.{statement}
+use Rattle.telemetry_lines.proofs.output.put_reading.Tie as tie
+
+put-position-requires : tie.Need-put-position-requires
+put-position-requires c κs = search needs
+
+put-sensors-requires : tie.Need-put-sensors-requires
+put-sensors-requires c κs =
+    let p = c .before .before .before in
+    omega (arith, p .put-position .ensures .ends, put-length (p .put-position .ensures), length-position (p .before .before .before .args .reading))
+
+put-motion-requires : tie.Need-put-motion-requires
+put-motion-requires c κs =
+    let q = c .before .before .before in
+    let p = q .before .before .before .before in
+    let r = p .before .before .before .args .reading in
+    omega (arith, q .put-sensors .ensures .ends, put-length (q .put-sensors .ensures), p .put-position .ensures .ends, put-length (p .put-position .ensures), length-position r, length-sensors r)
+
+same-length : tie.Need-same-length
+same-length c = search needs
+
+returns : tie.Need-returns
+returns c = rw reading-parts at (put-then (c .before .before .before .before .before .before .before .before .before .before .put-position .ensures) (put-then (c .before .before .before .before .before .before .put-sensors .ensures) (c .before .before .put-motion .ensures)))
+
+pub put-reading-spec : {M : Type 1} → statement M
+put-reading-spec =
+    tie.close
+    (tie.spec put-position-requires put-sensors-requires put-motion-requires same-length returns)

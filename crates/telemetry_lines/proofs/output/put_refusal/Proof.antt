@@ -1,0 +1,55 @@
+-- `telemetry_lines::output::put_refusal` meets its contract: one part is put after the other.
+-- Assumes nothing.
+use native.Mathlib.Omega.{arith}
+use lib.ListN.{length}
+use Rattle.telemetry_lines.specs.Text.{lineOf, refusalText}
+use Rattle.telemetry_lines.proofs.PutLaws.{put-then, put-length}
+use Rattle.telemetry_lines.proofs.TextLaws.{length-decimal}
+use Rattle.telemetry_lines.proofs.PutLaws.{put-then}
+use borrow.Author.Needs.{needs}
+use Rattle.telemetry_lines.proofs.output.put_refusal.Statement.{statement}
+use Rattle.telemetry_lines.proofs.output.put_refusal.Tie as tie
+
+slice-aggregate-put : tie.Need-slice-aggregate-put
+slice-aggregate-put c = search needs
+
+put-requires : tie.Need-put-requires
+put-requires c κs = search needs
+
+put-field-requires : tie.Need-put-field-requires
+put-field-requires c κs = search needs
+
+put-field-requires-2 : tie.Need-put-field-requires-2
+put-field-requires-2 c κs =
+    let p = c .before .before .before in
+    let start = p .before .before .before .before in
+    omega (arith, p .put-field .ensures .ends, put-length (p .put-field .ensures), start .put .ensures .ends, put-length (start .put .ensures), length-decimal (start .before .before .before .before .args .refusal .number))
+
+put-byte-requires : tie.Need-put-byte-requires
+put-byte-requires c κs =
+    let q = c .before .before .before in
+    let p = q .before .before .before .before in
+    let start = p .before .before .before .before in
+    let f = start .before .before .before .before .args .refusal in
+    omega (arith, q .put-field2 .ensures .ends, put-length (q .put-field2 .ensures), p .put-field .ensures .ends, put-length (p .put-field .ensures), start .put .ensures .ends, put-length (start .put .ensures), length-decimal (f .number), length-decimal (f .place))
+
+same-length : tie.Need-same-length
+same-length c = search needs
+
+returns : tie.Need-returns
+unfolding refusalText lineOf
+returns c =
+    put-then (c .before .before .before .before .before .before .before .before .before .before .before .before .before .before .put .ensures)
+    (put-then (c .before .before .before .before .before .before .before .before .before .before .put-field .ensures) (put-then (c .before .before .before .before .before .before .put-field2 .ensures) (c .before .before .put-byte .ensures)))
+
+pub put-refusal-spec : {M : Type 1} → statement M
+put-refusal-spec =
+    tie.close
+    (tie.spec
+    slice-aggregate-put
+    put-requires
+    put-field-requires
+    put-field-requires-2
+    put-byte-requires
+    same-length
+    returns)

@@ -1,0 +1,24 @@
+-- Text in a lent buffer, and the bytes that are kept of a line.
+use mathlib.Core.Path.{_≡_}
+use Prim.Native.Nat.{ℕ, _+_, _≤_}
+use mathlib.Core.List.{List, _++_}
+use lib.ListN.{length, take, drop}
+use Rattle.telemetry_lines.specs.declared.line.Line.{Line}
+
+-- A buffer with a text from a place on, and the rest as it was.
+unfoldable pub placed : List ℕ → ℕ → List ℕ → List ℕ
+placed buffer at text = take at buffer ++ text ++ drop (at + length text) buffer
+
+-- A text was put into a buffer from one place on up to another.
+pub record Put (before after : List ℕ) (at end : ℕ) (text : List ℕ) : Type 0 where
+  pub content : after ≡ placed before at text
+  pub ends : end ≡ at + length text
+  pub room : end ≤ length before
+
+-- How many bytes are kept of a line: one more than a line of the right length has, so that a longer one is told from it.
+abbrev pub mostKept : ℕ
+mostKept = 15
+
+-- The bytes that a line in the program's state holds.
+unfoldable pub heldBy : Line → List ℕ
+heldBy line = take (line .length) (line .bytes)

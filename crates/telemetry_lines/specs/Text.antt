@@ -1,0 +1,101 @@
+-- Text in ASCII: numbers, the header, and the line that is written for an answer.
+use Prim.Native.Nat.{ℕ, zero, suc, _+_, _/_, _%_}
+use mathlib.Core.Bool.{cond}
+use mathlib.Core.List.{List, [], _∷_, _++_}
+use lib.Dec.{ltb}
+use lib.IntN.{ℤ, pos, negsuc}
+use Rattle.refusal.specs.declared.Refusal.{Refusal}
+use Rattle.telemetry.specs.declared.Reading.{Reading}
+use Rattle.telemetry.specs.declared.Decoded.{Decoded}
+
+-- ---- Characters
+
+abbrev pub newline : ℕ
+newline = 10
+
+abbrev pub space : ℕ
+space = 32
+
+-- -
+abbrev pub minus : ℕ
+minus = 45
+
+-- 0 to 9
+unfoldable pub digitCharacter : ℕ → ℕ
+digitCharacter d = 48 + d
+
+-- ---- Numbers
+
+-- A number in decimal, with no zeros in front: its last digits, at most so many as are asked for.
+unfoldable pub decimalOf : ℕ → ℕ → List ℕ
+decimalOf zero n = []
+decimalOf (suc most) n =
+    cond (ltb n 10) (digitCharacter n ∷ []) (decimalOf most (n / 10) ++ (digitCharacter (n % 10) ∷ []))
+
+-- Ten digits hold every number of 32 bits.
+unfoldable pub decimalText : ℕ → List ℕ
+decimalText n = decimalOf 10 n
+
+-- A negative number has a minus sign in front.
+unfoldable pub integerText : ℤ → List ℕ
+integerText (pos n) = decimalText n
+integerText (negsuc n) = minus ∷ decimalText (suc n)
+
+-- ---- Lines of output
+
+-- Words with single spaces between them, and a newline at the end.
+unfoldable pub lineOf : List (List ℕ) → List ℕ
+lineOf [] = newline ∷ []
+lineOf (w ∷ []) = w ++ (newline ∷ [])
+lineOf (w ∷ v ∷ ws) = w ++ (space ∷ lineOf (v ∷ ws))
+
+-- CH GR ALT TEMP MV KT GPS
+unfoldable pub header : List ℕ
+header =
+    lineOf
+    ((67 ∷ 72 ∷ [])
+    ∷ (71 ∷ 82 ∷ [])
+    ∷ (65 ∷ 76 ∷ 84 ∷ [])
+    ∷ (84 ∷ 69 ∷ 77 ∷ 80 ∷ [])
+    ∷ (77 ∷ 86 ∷ [])
+    ∷ (75 ∷ 84 ∷ [])
+    ∷ (71 ∷ 80 ∷ 83 ∷ [])
+    ∷ [])
+
+-- The channel's characters, the letters of the sub-square, metres, degrees, millivolts, knots and GPS.
+unfoldable pub readingText : Reading → List ℕ
+readingText r =
+    lineOf
+    ((r .first ∷ r .third ∷ [])
+    ∷ (r .grid5 ∷ r .grid6 ∷ [])
+    ∷ decimalText (r .altitude)
+    ∷ integerText (r .temperature)
+    ∷ decimalText (r .voltage)
+    ∷ decimalText (r .speed)
+    ∷ decimalText (r .gps)
+    ∷ [])
+
+-- That line in the parts in which it is written: up to the altitude,
+unfoldable pub positionText : Reading → List ℕ
+positionText r = r .first ∷ r .third ∷ space ∷ r .grid5 ∷ r .grid6 ∷ space ∷ decimalText (r .altitude)
+
+-- temperature and voltage,
+unfoldable pub sensorText : Reading → List ℕ
+sensorText r = space ∷ integerText (r .temperature) ++ (space ∷ decimalText (r .voltage))
+
+-- speed, GPS and the newline.
+unfoldable pub motionText : Reading → List ℕ
+motionText r = space ∷ decimalText (r .speed) ++ (space ∷ decimalText (r .gps) ++ (newline ∷ []))
+
+-- "refused", the refusal's number and its place.
+unfoldable pub refusalText : Refusal → List ℕ
+refusalText f =
+    lineOf
+    ((114 ∷ 101 ∷ 102 ∷ 117 ∷ 115 ∷ 101 ∷ 100 ∷ [])
+    ∷ decimalText (f .number)
+    ∷ decimalText (f .place)
+    ∷ [])
+
+unfoldable pub answerText : Decoded → List ℕ
+answerText (Decoded.Telemetry r) = readingText r
+answerText (Decoded.Refused f) = refusalText f

@@ -1,0 +1,86 @@
+// Reads lines of a callsign, a locator and two power digits from standard input, and writes a header
+// and a line each: what the message says as telemetry, or why it is refused.
+//
+//     QQ2XFT GP99 60
+//
+// gives
+//
+//     CH GR ALT TEMP MV KT GPS
+//     Q2 SK 12340 -15 4100 30 1
+//
+// The input is read in parts, and each part's output is written at once: nothing but the start of a
+// line is kept from one part to the next, so the input may be of any size, and its lines of any
+// length.
+mod line;
+mod output;
+mod stream;
+
+ghost use mathlib.Core.Path.{_≡_};
+ghost use Prim.Native.Nat.{_*_, _≤_};
+ghost use lib.ListN.{length};
+ghost use Rattle.telemetry_lines.specs.Buffer.{mostKept};
+use libc::STDIN_FILENO;
+use libc::STDOUT_FILENO;
+use line::Line;
+
+// The line that is begun after a read, and whether to read on.
+struct Step {
+    line: Line,
+    is_more: bool,
+}
+
+// Reads a part of the input, and writes its output. An input that can't be read ends, and so does
+// the reading where the output can't be written.
+fn answer_part(line: Line, input: &mut [u8], out: &mut [u8]) -> Step
+    requires { ⌜ line .length ≤ mostKept ⌝ }
+    requires { ⌜ 62 * length (now input) ≤ length (now out) ⌝ }
+    ensures { λ r. ⌜ r .line .length ≤ mostKept ⌝ }
+{
+    let got = libc::read(STDIN_FILENO, input);
+    let count = io::count(got, input);
+    if count == 0 {
+        return Step {
+            line,
+            is_more: false,
+        };
+    }
+    let answered = stream::answer(line, &input[..count], out);
+    let begun = answered.line;
+    let end = answered.end;
+    let is_written = io::write_all(STDOUT_FILENO, &out[..end]);
+    Step {
+        line: begun,
+        is_more: is_written,
+    }
+}
+
+// Answers the lines that newlines end, and returns the line that none does. A loop has to end, and
+// nothing says that an input does: so the reads are counted down, from a number that no run uses up.
+fn answer_lines(input: &mut [u8], out: &mut [u8]) -> Line
+    requires { ⌜ 62 * length (now input) ≤ length (now out) ⌝ }
+    ensures { λ r. ⌜ r .length ≤ mostKept ⌝ }
+{
+    let mut line = line::empty();
+    let mut is_more = true;
+    let mut reads = u64::MAX;
+    while is_more && 0 < reads {
+        let step = answer_part(line, input, out);
+        let begun = step.line;
+        line = begun;
+        is_more = step.is_more;
+        reads -= 1;
+    }
+    line
+}
+
+// A line of output has at most 62 bytes, and a byte of input ends at most one line: so the output for
+// 1,024 bytes has room in 65,536.
+fn main() {
+    let mut input = [0u8; 1024];
+    let mut out = io::large_buffer();
+    let start = output::put_header(&mut out);
+    io::write_all(STDOUT_FILENO, &out[..start]);
+    let line = answer_lines(&mut input, &mut out);
+    let end = stream::answer_last(line, &mut out);
+    io::write_all(STDOUT_FILENO, &out[..end]);
+}

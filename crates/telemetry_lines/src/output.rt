@@ -1,0 +1,151 @@
+// Puts text into a lent buffer: numbers, the header, and the line for an answer. Each function puts
+// its text from `at` on, and answers where it ends.
+ghost use mathlib.Core.Path.{_≡_};
+ghost use mathlib.Core.List.{[], _∷_};
+ghost use Prim.Native.Nat.{_+_, _≤_};
+ghost use lib.IntN.{natAbs};
+ghost use lib.ListN.{length};
+ghost use Rattle.telemetry_lines.specs.Text.{space, newline, decimalText, integerText, header, positionText, sensorText, motionText, readingText, refusalText, answerText};
+ghost use Rattle.telemetry_lines.specs.Buffer.{Put};
+use refusal::Refusal;
+use telemetry::Decoded;
+use telemetry::Reading;
+
+fn put(text: &[u8], out: &mut [u8], at: usize) -> usize
+    requires { ⌜ at + length (now text) ≤ length (now out) ⌝ }
+    ensures { λ r. ⌜ Put (now (out .entry)) (now (out .exit)) at r (now (text .entry)) ⌝ }
+{
+    let mut i = 0;
+    while i < text.len() {
+        out[at + i] = text[i];
+        i += 1;
+    }
+    at + i
+}
+
+fn put_byte(byte: u8, out: &mut [u8], at: usize) -> usize
+    requires { ⌜ at + 1 ≤ length (now out) ⌝ }
+    ensures { λ r. ⌜ Put (now (out .entry)) (now (out .exit)) at r (byte ∷ []) ⌝ }
+{
+    out[at] = byte;
+    at + 1
+}
+
+fn put_decimal(number: u32, out: &mut [u8], at: usize) -> usize
+    requires { ⌜ at + 10 ≤ length (now out) ⌝ }
+    ensures { λ r. ⌜ Put (now (out .entry)) (now (out .exit)) at r (decimalText number) ⌝ }
+{
+    let mut digits = [0u8; 20];
+    let count = io::decimal(number as u64, &mut digits);
+    put(&digits[..count], out, at)
+}
+
+// A number without its sign.
+fn magnitude(number: i32) -> u32
+    ensures { λ r. ⌜ r ≡ natAbs number ⌝ }
+{
+    if number < 0 {
+        return (-(number as i64)) as u32;
+    }
+    number as u32
+}
+
+fn put_integer(number: i32, out: &mut [u8], at: usize) -> usize
+    requires { ⌜ at + 11 ≤ length (now out) ⌝ }
+    ensures { λ r. ⌜ Put (now (out .entry)) (now (out .exit)) at r (integerText number) ⌝ }
+{
+    if number < 0 {
+        let next = put_byte(b'-', out, at);
+        return put_decimal(magnitude(number), out, next);
+    }
+    put_decimal(magnitude(number), out, at)
+}
+
+// A space and a number.
+fn put_field(number: u32, out: &mut [u8], at: usize) -> usize
+    requires { ⌜ at + 11 ≤ length (now out) ⌝ }
+    ensures { λ r. ⌜ Put (now (out .entry)) (now (out .exit)) at r (space ∷ decimalText number) ⌝ }
+{
+    let next = put_byte(b' ', out, at);
+    put_decimal(number, out, next)
+}
+
+// A space and a number that may be negative.
+fn put_signed_field(number: i32, out: &mut [u8], at: usize) -> usize
+    requires { ⌜ at + 12 ≤ length (now out) ⌝ }
+    ensures { λ r. ⌜ Put (now (out .entry)) (now (out .exit)) at r (space ∷ integerText number) ⌝ }
+{
+    let next = put_byte(b' ', out, at);
+    put_integer(number, out, next)
+}
+
+pub(crate) fn put_header(out: &mut [u8]) -> usize
+    requires { ⌜ 25 ≤ length (now out) ⌝ }
+    ensures { λ r. ⌜ Put (now (out .entry)) (now (out .exit)) 0 r header ⌝ }
+{
+    put(b"CH GR ALT TEMP MV KT GPS\n", out, 0)
+}
+
+// The channel's characters, the letters of the sub-square and the altitude.
+fn put_position(reading: Reading, out: &mut [u8], at: usize) -> usize
+    requires { ⌜ at + 16 ≤ length (now out) ⌝ }
+    ensures { λ r. ⌜ Put (now (out .entry)) (now (out .exit)) at r (positionText reading) ⌝ }
+{
+    let place = [
+        reading.first,
+        reading.third,
+        b' ',
+        reading.grid5,
+        reading.grid6,
+    ];
+    let next = put(&place, out, at);
+    put_field(reading.altitude, out, next)
+}
+
+// Temperature and voltage.
+fn put_sensors(reading: Reading, out: &mut [u8], at: usize) -> usize
+    requires { ⌜ at + 23 ≤ length (now out) ⌝ }
+    ensures { λ r. ⌜ Put (now (out .entry)) (now (out .exit)) at r (sensorText reading) ⌝ }
+{
+    let next = put_signed_field(reading.temperature, out, at);
+    put_field(reading.voltage, out, next)
+}
+
+// Speed and GPS, and the end of the line.
+fn put_motion(reading: Reading, out: &mut [u8], at: usize) -> usize
+    requires { ⌜ at + 23 ≤ length (now out) ⌝ }
+    ensures { λ r. ⌜ Put (now (out .entry)) (now (out .exit)) at r (motionText reading) ⌝ }
+{
+    let gps = put_field(reading.speed, out, at);
+    let end = put_field(reading.gps, out, gps);
+    put_byte(b'\n', out, end)
+}
+
+fn put_reading(reading: Reading, out: &mut [u8], at: usize) -> usize
+    requires { ⌜ at + 62 ≤ length (now out) ⌝ }
+    ensures { λ r. ⌜ Put (now (out .entry)) (now (out .exit)) at r (readingText reading) ⌝ }
+{
+    let sensors = put_position(reading, out, at);
+    let motion = put_sensors(reading, out, sensors);
+    put_motion(reading, out, motion)
+}
+
+fn put_refusal(refusal: Refusal, out: &mut [u8], at: usize) -> usize
+    requires { ⌜ at + 62 ≤ length (now out) ⌝ }
+    ensures { λ r. ⌜ Put (now (out .entry)) (now (out .exit)) at r (refusalText refusal) ⌝ }
+{
+    let number = put(b"refused", out, at);
+    let place = put_field(refusal.number, out, number);
+    let end = put_field(refusal.place, out, place);
+    put_byte(b'\n', out, end)
+}
+
+pub(crate) fn put_answer(answer: Decoded, out: &mut [u8], at: usize) -> usize
+    requires { ⌜ at + 62 ≤ length (now out) ⌝ }
+    ensures { λ r. ⌜ Put (now (out .entry)) (now (out .exit)) at r (answerText answer) ⌝ }
+{
+    match answer {
+        Decoded::Telemetry(reading) => put_reading(reading, out, at),
+        Decoded::Refused(refusal) => put_refusal(refusal, out, at),
+    }
+}
