@@ -1,1 +1,122 @@
--- Laws of a line: its form test by test, and the bytes kept of it.
+-- Laws of a line: its form test by test, its answer in each case, and the bytes kept of it.
+use mathlib.Core.Path.{_≡_, refl, sym, ap, _∙_}
+use Prim.Native.Nat.{ℕ, zero, suc, _+_, _≤_, _<_, min}
+use native.Mathlib.Numerals.{add-one}
+use native.Mathlib.Omega.{arith}
+use mathlib.Core.Bool.{true, false, and-false, _&&_}
+use mathlib.Core.List.{List, [], _∷_, _++_}
+use lib.Dec.{eqb, leb}
+use lib.ListN.{length, getD, take, drop, set, length-take, length-append}
+use lib.Seq.{length-take-le, take-suc-set, take-take, take-all, take-append-le}
+use borrow.Author.Tests.{leb-true, eqb-true, eq-eqb, ne-eqb}
+use Rattle.basics.specs.Test.{between}
+use Rattle.basics.proofs.Choice.{both-true, below-or-not}
+use Rattle.refusal.specs.Refusals.{refusal, wrongLength}
+use Rattle.telemetry.specs.Answer.{decoded}
+use Rattle.telemetry.specs.declared.Decoded.{Decoded}
+use Rattle.telemetry_lines.specs.Text.{space}
+use Rattle.telemetry_lines.specs.Line.{hasForm, callsignIn, locatorIn, powerIn, lineAnswer, lineText}
+use Rattle.telemetry_lines.specs.Stream.{mostKept}
+use Rattle.telemetry_lines.specs.Buffer.{heldBy}
+use Rattle.telemetry_lines.specs.declared.line.Line.{Line}
+
+-- ---- The form
+
+module _ (line : List ℕ) where
+  pub other-length : (length line ≡ 14 → ⊥) → hasForm line ≡ false
+  unfolding hasForm
+  other-length h = rw (ne-eqb (length line) 14 h)
+
+  pub other-first-space : length line ≡ 14 → (getD line 6 0 ≡ space → ⊥) → hasForm line ≡ false
+  unfolding hasForm
+  other-first-space e h = rw (eq-eqb (length line) 14 e, ne-eqb (getD line 6 0) space h)
+
+  pub other-second-space : length line ≡ 14 → getD line 6 0 ≡ space → (getD line 11 0 ≡ space → ⊥) → hasForm line ≡ false
+  unfolding hasForm
+  other-second-space e f h = rw (eq-eqb (length line) 14 e, eq-eqb (getD line 6 0) space f, ne-eqb (getD line 11 0) space h)
+
+  pub form-by-digits : length line ≡ 14 → getD line 6 0 ≡ space → getD line 11 0 ≡ space
+      → hasForm line ≡ (between 48 57 (getD line 12 0) && between 48 57 (getD line 13 0))
+  unfolding hasForm
+  form-by-digits e f g = rw (eq-eqb (length line) 14 e, eq-eqb (getD line 6 0) space f, eq-eqb (getD line 11 0) space g)
+
+-- What the form says: the length, and that the power is two digits.
+pub record Formed (line : List ℕ) : Type 0 where
+  pub long : length line ≡ 14
+  pub tens-low : 48 ≤ getD line 12 0
+  pub tens-high : getD line 12 0 ≤ 57
+  pub ones-low : 48 ≤ getD line 13 0
+  pub ones-high : getD line 13 0 ≤ 57
+
+digit : (b : ℕ) → between 48 57 b ≡ true → (48 ≤ b) × (b ≤ 57)
+digit b e =
+    let t = both-true (leb 48 b) (leb b 57) e in
+    (leb-true 48 b (t .0), leb-true b 57 (t .1))
+
+pub formed : (line : List ℕ) → hasForm line ≡ true → Formed line
+unfolding hasForm
+formed line e =
+    let ones = both-true _ (between 48 57 (getD line 13 0)) e in
+    let tens = both-true _ (between 48 57 (getD line 12 0)) (ones .0) in
+    let second = both-true _ (eqb (getD line 11 0) space) (tens .0) in
+    let first = both-true (eqb (length line) 14) _ (second .0) in
+    let d = digit (getD line 12 0) (tens .1) in
+    let u = digit (getD line 13 0) (ones .1) in
+    record {
+      long = eqb-true (length line) 14 (first .0);
+      tens-low = d .0;
+      tens-high = d .1;
+      ones-low = u .0;
+      ones-high = u .1;
+    }
+
+-- ---- The answer
+
+pub answer-other : (line : List ℕ) → hasForm line ≡ false → lineAnswer line ≡ Decoded.Refused (refusal wrongLength 0)
+unfolding lineAnswer
+answer-other line e = rw e
+
+pub answer-formed : (line : List ℕ) → hasForm line ≡ true → lineAnswer line ≡ decoded (take 6 line) (take 4 (drop 7 line)) (powerIn line)
+unfolding lineAnswer callsignIn locatorIn
+answer-formed line e = rw e
+
+-- ---- The bytes kept
+
+-- A longer line than those kept has the same answer as they have.
+pub kept-answer : (line : List ℕ) → lineAnswer (take mostKept line) ≡ lineAnswer line
+kept-answer line =
+    below-or-not (length line) 16
+    (λ h. ap lineAnswer (take-all mostKept line (omega arith)))
+    (λ h. answer-other (take mostKept line) (other-length (take mostKept line) (λ e. omega (arith, length-take mostKept line)))
+    ∙ sym (answer-other line (other-length line (λ e. omega arith))))
+
+pub kept-text : (line : List ℕ) → lineText (take mostKept line) ≡ lineText line
+unfolding lineText
+kept-text line = rw (kept-answer line)
+
+-- A byte more after the bytes kept, or after the whole line.
+pub kept-more : (line : List ℕ) (byte : ℕ) → take mostKept (take mostKept line ++ (byte ∷ [])) ≡ take mostKept (line ++ (byte ∷ []))
+kept-more line byte =
+    below-or-not (length line) 15
+    (λ h. ap (λ (l : List ℕ). take mostKept (l ++ (byte ∷ []))) (take-all mostKept line (omega arith)))
+    (λ h. take-append-le mostKept (take mostKept line) (byte ∷ []) (omega (arith, length-take mostKept line))
+    ∙ take-take mostKept mostKept line (omega arith)
+    ∙ sym (take-append-le mostKept line (byte ∷ []) (omega arith)))
+
+-- The bytes held: a line has room for 15.
+module _ (bytes : List ℕ) (long : length bytes ≡ 15) (n byte : ℕ) where
+  pub held-full : 15 ≤ n → n ≤ 15 → take n bytes ≡ take mostKept (take n bytes ++ (byte ∷ []))
+  held-full h k =
+      let count = length-take-le n bytes (omega arith) in
+      sym (take-append-le mostKept (take n bytes) (byte ∷ []) (omega arith) ∙ take-all mostKept (take n bytes) (omega arith))
+
+  pub held-more : n < 15 → take (n + 1) (set bytes n byte) ≡ take mostKept (take n bytes ++ (byte ∷ []))
+  held-more h =
+      let count = length-take-le n bytes (omega arith) in
+      let within : n < length bytes = omega arith in
+      rw (add-one n, take-suc-set bytes n byte within)
+      (sym (take-all mostKept (take n bytes ++ (byte ∷ [])) (omega (arith, length-append (take n bytes) (byte ∷ [])))))
+
+pub held-within : (line : Line) → line .length ≤ mostKept → length (heldBy line) ≤ mostKept
+unfolding heldBy
+held-within line h = omega (arith, length-take (line .length) (line .bytes))

@@ -1,4 +1,4 @@
--- Text in a lent buffer, and the bytes that are kept of a line.
+-- Text in a lent buffer, and the bytes that the program holds of a line.
 use mathlib.Core.Path.{_≡_}
 use Prim.Native.Nat.{ℕ, _+_, _≤_}
 use mathlib.Core.List.{List, _++_}
@@ -14,10 +14,6 @@ pub record Put (before after : List ℕ) (at end : ℕ) (text : List ℕ) : Type
   pub content : after ≡ placed before at text
   pub ends : end ≡ at + length text
   pub room : end ≤ length before
-
--- How many bytes are kept of a line: one more than a line of the right length has, so that a longer one is told from it.
-abbrev pub mostKept : ℕ
-mostKept = 15
 
 -- The bytes that a line in the program's state holds.
 unfoldable pub heldBy : Line → List ℕ

@@ -3,6 +3,7 @@ use Prim.Native.Nat.{ℕ}
 use mathlib.Core.Bool.{cond}
 use mathlib.Core.List.{List, [], _∷_, _++_}
 use lib.Dec.{eqb}
+use lib.ListN.{take}
 use Rattle.telemetry_lines.specs.Text.{newline, header}
 use Rattle.telemetry_lines.specs.Line.{lineText}
 
@@ -24,3 +25,19 @@ lastText (b ∷ bs) = lineText (b ∷ bs)
 -- "one line each after a header"
 unfoldable pub outputOf : List ℕ → List ℕ
 outputOf input = header ++ (outputAfter [] input ++ lastText (lineAfter [] input))
+
+-- ---- The same output in parts
+
+-- How many bytes are kept of a line: one more than a line of the right length has, so that a longer one is told from it.
+abbrev pub mostKept : ℕ
+mostKept = 15
+
+-- Where the input comes in parts, and of a line that is begun only its first 15 bytes are kept from one part to the next.
+unfoldable pub outputInParts : List ℕ → List (List ℕ) → List ℕ
+outputInParts line [] = lastText line
+outputInParts line (part ∷ parts) = outputAfter line part ++ outputInParts (take mostKept (lineAfter line part)) parts
+
+-- The parts, one after the other.
+unfoldable pub joined : List (List ℕ) → List ℕ
+joined [] = []
+joined (part ∷ parts) = part ++ joined parts

@@ -5,7 +5,8 @@ ghost use mathlib.Core.List.{[], _∷_, _++_};
 ghost use Prim.Native.Nat.{_≤_};
 ghost use lib.ListN.{take};
 ghost use Rattle.basics.specs.Test.{between};
-ghost use Rattle.telemetry_lines.specs.Buffer.{mostKept, heldBy};
+ghost use Rattle.telemetry_lines.specs.Stream.{mostKept};
+ghost use Rattle.telemetry_lines.specs.Buffer.{heldBy};
 ghost use Rattle.telemetry_lines.specs.Line.{hasForm, powerIn, lineAnswer};
 use refusal::Refusal;
 use refusal::WRONG_LENGTH;
@@ -34,11 +35,11 @@ pub(crate) fn with_byte(line: Line, byte: u8) -> Line
     ensures { λ r. ⌜ heldBy r ≡ take mostKept (heldBy line ++ (byte ∷ [])) ⌝ }
     ensures { λ r. ⌜ r .length ≤ mostKept ⌝ }
 {
+    let mut bytes = line.bytes;
     let length = line.length;
     if 15 <= length {
         return line;
     }
-    let mut bytes = line.bytes;
     bytes[length] = byte;
     Line {
         bytes,

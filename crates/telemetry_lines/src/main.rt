@@ -17,40 +17,61 @@ mod stream;
 
 ghost use mathlib.Core.Path.{_≡_};
 ghost use Prim.Native.Nat.{_*_, _≤_};
-ghost use lib.ListN.{length};
-ghost use Rattle.telemetry_lines.specs.Buffer.{mostKept};
+ghost use lib.ListN.{length, take};
+ghost use Rattle.telemetry_lines.specs.Buffer.{Put, heldBy};
+ghost use Rattle.telemetry_lines.specs.Stream.{mostKept, lineAfter, outputAfter};
 use libc::STDIN_FILENO;
 use libc::STDOUT_FILENO;
 use line::Line;
 
-// The line that is begun after a read, and whether to read on.
+// What a read gave: how many bytes of the input, where their output ends, and the line that is then
+// begun.
+struct Part {
+    line: Line,
+    count: usize,
+    end: usize,
+}
+
+// The line that is begun, and whether to read on.
 struct Step {
     line: Line,
     is_more: bool,
 }
 
-// Reads a part of the input, and writes its output. An input that can't be read ends, and so does
-// the reading where the output can't be written.
+// Reads a part of the input, and puts its output to the start of `out`. An input that can't be read
+// has ended.
+fn read_part(line: Line, input: &mut [u8], out: &mut [u8]) -> Part
+    requires { ⌜ line .length ≤ mostKept ⌝ }
+    requires { ⌜ 62 * length (now input) ≤ length (now out) ⌝ }
+    ensures { λ r. ⌜ Put (now (out .entry)) (now (out .exit)) 0 (r .end) (outputAfter (heldBy line) (take (r .count) (now (input .exit)))) ⌝ }
+    ensures { λ r. ⌜ heldBy (r .line) ≡ take mostKept (lineAfter (heldBy line) (take (r .count) (now (input .exit)))) ⌝ }
+    ensures { λ r. ⌜ r .line .length ≤ mostKept ⌝ }
+{
+    let got = libc::read(STDIN_FILENO, input);
+    let count = io::count(got, input);
+    let answered = stream::answer(line, &input[..count], out);
+    let begun = answered.line;
+    Part {
+        line: begun,
+        count,
+        end: answered.end,
+    }
+}
+
+// Reads a part of the input, and writes its output. Where that can't be written, nothing more is
+// read.
 fn answer_part(line: Line, input: &mut [u8], out: &mut [u8]) -> Step
     requires { ⌜ line .length ≤ mostKept ⌝ }
     requires { ⌜ 62 * length (now input) ≤ length (now out) ⌝ }
     ensures { λ r. ⌜ r .line .length ≤ mostKept ⌝ }
 {
-    let got = libc::read(STDIN_FILENO, input);
-    let count = io::count(got, input);
-    if count == 0 {
-        return Step {
-            line,
-            is_more: false,
-        };
-    }
-    let answered = stream::answer(line, &input[..count], out);
-    let begun = answered.line;
-    let end = answered.end;
+    let part = read_part(line, input, out);
+    let begun = part.line;
+    let end = part.end;
     let is_written = io::write_all(STDOUT_FILENO, &out[..end]);
     Step {
         line: begun,
-        is_more: is_written,
+        is_more: is_written && 0 < part.count,
     }
 }
 

@@ -1,25 +1,31 @@
+-- `telemetry_lines::line::answer_held` meets its contract: the bytes held are lent.
+-- Assumes nothing.
+use mathlib.Core.Path.{_≡_, sym}
+use native.Mathlib.Omega.{arith}
+use lib.ListN.{length}
+use lib.Seq.{length-take-le}
+use Rattle.telemetry_lines.specs.Buffer.{heldBy}
 use borrow.Author.Needs.{needs}
 use Rattle.telemetry_lines.proofs.line.answer_held.Statement.{statement}
 use Rattle.telemetry_lines.proofs.line.answer_held.Tie as tie
-use Rattle.telemetry_lines.proofs.line.answer_held.Reads as reads
-use Rattle.telemetry_lines.proofs.line.answer_held.Lts as lts
-use Rattle.telemetry_lines.proofs.line.answer_of.Reads as answer-of-reads
 
--- src/line.rt:93:15
 array-share-prefix-bytes : tie.Need-array-share-prefix-bytes
-array-share-prefix-bytes c = ?
+array-share-prefix-bytes c =
+    let long : length (c .before .args .line .bytes) ≡ 15 = search needs in
+    omega arith
 
--- src/line.rt:93:15
 slice-aggregate-answer-of : tie.Need-slice-aggregate-answer-of
-slice-aggregate-answer-of c = ?
+slice-aggregate-answer-of c =
+    let line = c .before .before .args .line in
+    let long : length (line .bytes) ≡ 15 = search needs in
+    sym (length-take-le (line .length) (line .bytes) (omega arith))
 
--- src/line.rt:93:5
 answer-of-requires : tie.Need-answer-of-requires
 answer-of-requires c κs = search needs
 
--- src/line.rt:87:1
 returns : tie.Need-returns
-returns c = ?
+unfolding heldBy
+returns c = c .answer-of .ensures
 
 pub answer-held-spec : {M : Type 1} → statement M
 answer-held-spec =

@@ -1,47 +1,50 @@
+-- `telemetry_lines::line::answer_of` meets its contract: the parts of a line of the right form are read as telemetry.
+-- Assumes nothing.
+use mathlib.Core.Path.{_≡_, sym, _∙_}
+use native.Mathlib.Omega.{arith}
+use mathlib.Core.Bool.{true, false}
+use borrow.Author.Tests.{not-true, not-false}
+use lib.ListN.{length}
+use lib.Seq.{length-take-le}
+use Rattle.telemetry_lines.specs.Line.{hasForm, lineAnswer}
+use Rattle.telemetry_lines.proofs.LineLaws.{formed, answer-other, answer-formed}
 use borrow.Author.Needs.{needs}
 use Rattle.telemetry_lines.proofs.line.answer_of.Statement.{statement}
 use Rattle.telemetry_lines.proofs.line.answer_of.Tie as tie
-use Rattle.telemetry_lines.proofs.line.answer_of.Reads as reads
-use Rattle.telemetry_lines.proofs.line.answer_of.Lts as lts
-use Rattle.telemetry.proofs.read.Reads as read-reads
-use Rattle.telemetry_lines.proofs.line.has_form.Reads as has-form-reads
-use Rattle.telemetry_lines.proofs.line.power_in.Reads as power-in-reads
 
--- src/line.rt:78:9
 has-form-requires : tie.Need-has-form-requires
 has-form-requires c κs = search needs
 
--- src/line.rt:79:9
 returns : tie.Need-returns
-returns c = ?
+returns c = sym (answer-other _ (sym (c .before .has-form .ensures) ∙ not-true _ (c .if1 .taken)))
 
--- src/line.rt:84:21
+form : (c : tie.Else1) → hasForm (c .before .before .before .args .line .now) ≡ true
+form c = sym (c .before .has-form .ensures) ∙ not-false _ (c .if1 .left)
+
 slice-aggregate-read : tie.Need-slice-aggregate-read
-slice-aggregate-read c = ?
+slice-aggregate-read c =
+    let line = c .before .before .before .before .args .line .now in
+    sym (length-take-le 6 line (omega (arith, formed line (form (c .before)))))
 
--- src/line.rt:84:33
 sub-read : tie.Need-sub-read
 sub-read c = search needs
 
--- src/line.rt:84:33
 part-read-start : tie.Need-part-read-start
 part-read-start c = search needs
 
--- src/line.rt:84:33
 part-read-end : tie.Need-part-read-end
-part-read-end c = ?
+part-read-end c = omega (arith, formed (c .before .before .before .before .args .line .now) (form (c .before)))
 
--- src/line.rt:84:47
 power-in-requires : tie.Need-power-in-requires
-power-in-requires c κs = ?
+power-in-requires c κs = form (c .before .before)
 
--- src/line.rt:84:5
 read-requires : tie.Need-read-requires
 read-requires c κs = ?
 
--- src/line.rt:75:1
 returns-2 : tie.Need-returns-2
-returns-2 c = ?
+returns-2 c =
+    let line = c .before .before .before .before .before .before .before .args .line .now in
+    rw (answer-formed line (form (c .before .before .before .before)), ← c .before .power-in .ensures) (c .read .ensures .0)
 
 pub answer-of-spec : {M : Type 1} → statement M
 answer-of-spec =

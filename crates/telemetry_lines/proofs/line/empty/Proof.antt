@@ -1,11 +1,14 @@
+-- `telemetry_lines::line::empty` meets its contract: no byte is held.
+-- Assumes nothing.
+use mathlib.Core.Path.{refl}
+use native.Mathlib.Omega.{arith}
+use Rattle.telemetry_lines.specs.Buffer.{heldBy}
 use Rattle.telemetry_lines.proofs.line.empty.Statement.{statement}
 use Rattle.telemetry_lines.proofs.line.empty.Tie as tie
-use Rattle.telemetry_lines.proofs.line.empty.Reads as reads
-use Rattle.telemetry_lines.proofs.line.empty.Lts as lts
 
--- src/line.rt:21:1
 returns : tie.Need-returns
-returns c = ?
+unfolding heldBy
+returns c = (refl, omega arith)
 
 pub empty-spec : {M : Type 1} → statement M
 empty-spec = tie.close (tie.spec returns)

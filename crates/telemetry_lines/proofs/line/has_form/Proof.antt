@@ -1,49 +1,60 @@
+-- `telemetry_lines::line::has_form` meets its contract: its tests are the definition's.
+-- Assumes nothing.
+use mathlib.Core.Path.{_≡_, sym, _∙_}
+use mathlib.Core.Bool.{true, false}
+use mathlib.Core.Logic.{⊎-elim}
+use lib.ListN.{getD}
+use borrow.Author.Tests.{not-true, not-false, eqb-true, eqb-false}
+use Rattle.basics.specs.Test.{between}
+use Rattle.telemetry_lines.specs.Text.{space}
+use Rattle.telemetry_lines.proofs.LineLaws.{other-length, other-first-space, other-second-space, form-by-digits}
 use borrow.Author.Needs.{needs}
 use Rattle.telemetry_lines.proofs.line.has_form.Statement.{statement}
 use Rattle.telemetry_lines.proofs.line.has_form.Tie as tie
-use Rattle.telemetry_lines.proofs.line.has_form.Reads as reads
-use Rattle.telemetry_lines.proofs.line.has_form.Lts as lts
-use Rattle.telemetry_lines.proofs.line.is_digit.Reads as is-digit-reads
 
--- src/line.rt:59:9
 returns : tie.Need-returns
-returns c = ?
+returns c = sym (other-length _ (c .if1 .taken))
 
--- src/line.rt:61:8
 shared-slice-read-if2 : tie.Need-shared-slice-read-if2
 shared-slice-read-if2 c = search needs
 
--- src/line.rt:61:27
 shared-slice-read-if3 : tie.Need-shared-slice-read-if3
 shared-slice-read-if3 c = search needs
 
--- src/line.rt:62:9
 returns-2 : tie.Need-returns-2
-returns-2 c = ?
+returns-2 c =
+    let line = c .before .before .before .before .args .line .now in
+    let long = c .before .before .if1 .left in
+    ⊎-elim
+    (λ w. sym (other-first-space line long (w .taken)))
+    (λ w. sym (other-second-space line long (w .0 .left) (eqb-false _ space (not-true _ (w .2 .taken)))))
+    (c .if2 .came)
 
--- src/line.rt:64:14
 shared-slice-read-is-digit : tie.Need-shared-slice-read-is-digit
 shared-slice-read-is-digit c = search needs
 
--- src/line.rt:64:5
 is-digit-requires : tie.Need-is-digit-requires
 is-digit-requires c κs = search needs
 
--- src/line.rt:64:36
 shared-slice-read-is-digit-2 : tie.Need-shared-slice-read-is-digit-2
 shared-slice-read-is-digit-2 c = search needs
 
--- src/line.rt:64:27
 is-digit-requires-2 : tie.Need-is-digit-requires-2
 is-digit-requires-2 c κs = search needs
 
--- src/line.rt:55:1
 returns-3 : tie.Need-returns-3
-returns-3 c = ?
+returns-3 c =
+    let line = c .before .before .before .before .before .before .before .before .before .before .before .args .line .now in
+    let second = eqb-true _ space (not-false _ (c .before .before .before .before .before .if3 .left)) in
+    let tens : between 48 57 (getD line 12 0) ≡ true = sym (c .before .before .before .is-digit .ensures) ∙ c .before .before .if4 .taken in
+    rw (form-by-digits line (c .before .before .before .before .before .before .before .before .before .if1 .left) (c .before .before .before .before .before .before .before .if2 .left) second, tens) (c .is-digit2 .ensures)
 
--- src/line.rt:55:1
 returns-4 : tie.Need-returns-4
-returns-4 c = ?
+returns-4 c =
+    let line = c .before .before .before .before .before .before .before .before .before .args .line .now in
+    let second = eqb-true _ space (not-false _ (c .before .before .before .if3 .left)) in
+    let tens : between 48 57 (getD line 12 0) ≡ false = sym (c .before .is-digit .ensures) ∙ c .if4 .left in
+    rw (form-by-digits line (c .before .before .before .before .before .before .before .if1 .left) (c .before .before .before .before .before .if2 .left) second, tens) (c .if4 .left)
 
 pub has-form-spec : {M : Type 1} → statement M
 has-form-spec =

@@ -1,43 +1,55 @@
+-- `telemetry_lines::line::power_in` meets its contract: a line of the right form has two digits there.
+-- Assumes nothing.
+use mathlib.Core.Path.{refl}
+use native.Mathlib.Omega.{arith}
+use Rattle.telemetry_lines.specs.Line.{powerIn}
+use Rattle.telemetry_lines.proofs.LineLaws.{formed}
 use Rattle.telemetry_lines.proofs.line.power_in.Statement.{statement}
 use Rattle.telemetry_lines.proofs.line.power_in.Tie as tie
-use Rattle.telemetry_lines.proofs.line.power_in.Reads as reads
-use Rattle.telemetry_lines.proofs.line.power_in.Lts as lts
 
--- src/line.rt:72:6
 shared-slice-read-result : tie.Need-shared-slice-read-result
-shared-slice-read-result c = ?
+shared-slice-read-result c =
+    let s = c .before in
+    omega (arith, formed (s .args .line .now) (s .pre))
 
--- src/line.rt:72:6
 sub-result : tie.Need-sub-result
-sub-result c = ?
+sub-result c =
+    let s = c .before in
+    omega (arith, formed (s .args .line .now) (s .pre))
 
--- src/line.rt:72:5
 cast-result : tie.Need-cast-result
-cast-result c = ?
+cast-result c =
+    let s = c .before in
+    omega (arith, formed (s .args .line .now) (s .pre))
 
--- src/line.rt:72:5
 mul-result : tie.Need-mul-result
-mul-result c = ?
+mul-result c =
+    let s = c .before in
+    omega (arith, formed (s .args .line .now) (s .pre))
 
--- src/line.rt:72:38
 shared-slice-read-result-2 : tie.Need-shared-slice-read-result-2
-shared-slice-read-result-2 c = ?
+shared-slice-read-result-2 c =
+    let s = c .before .before in
+    omega (arith, formed (s .args .line .now) (s .pre))
 
--- src/line.rt:72:38
 sub-result-2 : tie.Need-sub-result-2
-sub-result-2 c = ?
+sub-result-2 c =
+    let s = c .before .before in
+    omega (arith, formed (s .args .line .now) (s .pre))
 
--- src/line.rt:72:37
 cast-result-2 : tie.Need-cast-result-2
-cast-result-2 c = ?
+cast-result-2 c =
+    let s = c .before .before in
+    omega (arith, formed (s .args .line .now) (s .pre))
 
--- src/line.rt:72:5
 add-result : tie.Need-add-result
-add-result c = ?
+add-result c =
+    let s = c .before .before in
+    omega (arith, formed (s .args .line .now) (s .pre))
 
--- src/line.rt:68:1
 returns : tie.Need-returns
-returns c = ?
+unfolding powerIn
+returns c = refl
 
 pub power-in-spec : {M : Type 1} → statement M
 power-in-spec =

@@ -1,61 +1,71 @@
+-- `telemetry_lines::stream::answer` meets its contract: each turn takes a byte of the part. The measure is what is left of it.
+-- Assumes nothing.
+use mathlib.Core.Path.{_≡_, sym, ap, _∙_}
+use Prim.Native.Nat.{_-_, _≤_}
+use mathlib.Core.Logic.{⊎-elim}
+use native.Mathlib.Omega.{arith}
+use lib.ListN.{length}
+use Rattle.telemetry_lines.specs.Stream.{mostKept}
+use Rattle.telemetry_lines.specs.Buffer.{heldBy}
+use Rattle.telemetry_lines.proofs.PutLaws.{put-length}
+use Rattle.telemetry_lines.proofs.LineLaws.{held-within}
+use Rattle.telemetry_lines.proofs.StreamLaws.{Answering, answering-starts, answering-room, answering-newline, answering-other, answering-ends}
 use Rattle.telemetry_lines.proofs.stream.answer.Statement.{statement}
 use Rattle.telemetry_lines.proofs.stream.answer.Tie as tie
-use Rattle.telemetry_lines.proofs.stream.answer.Reads as reads
-use Rattle.telemetry_lines.proofs.stream.answer.Lts as lts
-use Rattle.telemetry_lines.proofs.line.answer_held.Reads as answer-held-reads
-use Rattle.telemetry_lines.proofs.line.empty.Reads as empty-reads
-use Rattle.telemetry_lines.proofs.line.with_byte.Reads as with-byte-reads
-use Rattle.telemetry_lines.proofs.output.put_answer.Reads as put-answer-reads
 
 abbrev Inv-loop : tie.InvT-loop
-Inv-loop input out₀ begun₀ end₀ i₀ out begun end i = ?
+Inv-loop input out₀ begun₀ end₀ i₀ out begun end i =
+    Answering (heldBy begun₀) input out₀ out (heldBy begun) end i × (begun .length ≤ mostKept)
 
 abbrev μ-loop : tie.MeasureT-loop
-μ-loop input out₀ begun₀ end₀ i₀ out begun end i = ?
+μ-loop input out₀ begun₀ end₀ i₀ out begun end i = length input - i
 
--- src/stream.rt:29:5
 loop-holds : tie.Need-loop-holds Inv-loop μ-loop
-loop-holds c = ?
+loop-holds c =
+    let line = c .before .before .args .line in
+    let kept : line .length ≤ mostKept = c .before .before .pre .0 in
+    (answering-starts _ _ _ (held-within line kept), kept)
 
--- src/stream.rt:30:20
 shared-slice-read-byte : tie.Need-shared-slice-read-byte Inv-loop μ-loop
-shared-slice-read-byte c = ?
+shared-slice-read-byte c = omega arith
 
--- src/stream.rt:32:30
 answer-held-requires : tie.Need-answer-held-requires Inv-loop μ-loop
-answer-held-requires c κs = ?
+answer-held-requires c κs = c .before .before .before .loop .inv .1
 
--- src/stream.rt:32:13
 put-answer-requires : tie.Need-put-answer-requires Inv-loop μ-loop
-put-answer-requires c κs = ?
+put-answer-requires c κs = answering-room (c .before .before .before .before .before .loop .inv .0) (omega arith) (c .before .before .before .before .before .before .before .before .pre .1)
 
--- src/stream.rt:33:13
 empty-requires : tie.Need-empty-requires Inv-loop μ-loop
-empty-requires c κs = ?
+empty-requires c κs = tt
 
--- src/stream.rt:35:13
 with-byte-requires : tie.Need-with-byte-requires Inv-loop μ-loop
-with-byte-requires c κs = ?
+with-byte-requires c κs = c .before .before .before .loop .inv .1
 
--- src/stream.rt:37:9
 add-i : tie.Need-add-i Inv-loop μ-loop
-add-i c = ?
+add-i c = omega arith
 
--- src/stream.rt:29:5
 loop-less : tie.Need-loop-less Inv-loop μ-loop
-loop-less c = ?
+loop-less c = omega arith
 
--- src/stream.rt:29:5
 loop-again : tie.Need-loop-again Inv-loop μ-loop
-loop-again c = ?
+loop-again c =
+    let l = c .before .before .before .loop in
+    ⊎-elim
+    (λ w.
+    let p = rw (w .1 .ensures) at (w .3 .ensures) in
+    rw (w .7, w .8, w .9) (rw (w .6 .ensures .0) (answering-newline (l .inv .0) (omega arith) (w .0 .taken) p), w .6 .ensures .1))
+    (λ w.
+    rw (w .2, w .3, w .4) (answering-other (l .inv .0) (omega arith) (w .0 .left) (w .1 .ensures .0), w .1 .ensures .1))
+    (c .if1 .came)
 
--- src/stream.rt:19:1
 same-length : tie.Need-same-length Inv-loop μ-loop
-same-length c = ?
+same-length c = put-length (c .before .loop .inv .0 .output)
 
--- src/stream.rt:19:1
 returns : tie.Need-returns Inv-loop μ-loop
-returns c = ?
+returns c =
+    let l = c .before .loop in
+    let e = answering-ends (omega arith) (l .inv .0) in
+    (e .0, (e .1, l .inv .1))
 
 pub answer-spec : {M : Type 1} → statement M
 answer-spec =
