@@ -120,3 +120,11 @@ module _ (bytes : List ℕ) (long : length bytes ≡ 15) (n byte : ℕ) where
 pub held-within : (line : Line) → line .length ≤ mostKept → length (heldBy line) ≤ mostKept
 unfolding heldBy
 held-within line h = omega (arith, length-take (line .length) (line .bytes))
+
+pub held-none : (line : Line) → line .length ≡ 0 → heldBy line ≡ []
+unfolding heldBy
+held-none line e = rw e
+
+pub held-count : (line : Line) → length (line .bytes) ≡ 15 → line .length ≤ mostKept → length (heldBy line) ≡ line .length
+unfolding heldBy
+held-count line long h = length-take-le (line .length) (line .bytes) (omega arith)

@@ -6,7 +6,7 @@ use native.Mathlib.Numerals.{add-one}
 use native.Mathlib.Omega.{arith}
 use mathlib.Core.List.{List, [], _∷_, _++_}
 use lib.ListN.{length, getD, take, drop, set, length-append}
-use lib.Seq.{sets, sets-eq, length-sets, take-suc, take-all, take-at}
+use lib.Seq.{sets, sets-eq, length-sets, take-suc, take-all, take-at, length-take-le}
 use Rattle.telemetry_lines.specs.Buffer.{placed, Put}
 
 -- One run of stores after another is one run.
@@ -28,6 +28,10 @@ module _ {before after : List ℕ} {at end : ℕ} {text : List ℕ} (p : Put bef
 
   pub put-length : length after ≡ length before
   put-length = ap length put-as-sets ∙ length-sets before at text
+
+  -- Up to its end the text stands within the buffer.
+  pub put-count : end ≡ length (take end after)
+  put-count = sym (length-take-le end after (omega (arith, p .room, put-length)))
 
 pub put-none : (buffer : List ℕ) (at : ℕ) → at ≤ length buffer → Put buffer buffer at at []
 put-none buffer at h = put-by-sets buffer buffer at at [] refl (sym (add-zero at)) h

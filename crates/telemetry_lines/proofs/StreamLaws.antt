@@ -170,3 +170,14 @@ parts-from line (part ∷ parts) =
 pub in-parts : (parts : List (List ℕ)) → header ++ outputInParts [] parts ≡ outputOf (joined parts)
 unfolding outputOf
 in-parts parts = ap (λ (text : List ℕ). header ++ text) (parts-from [] parts)
+
+-- ---- The last line
+
+pub last-none : lastText [] ≡ []
+unfolding lastText
+last-none = refl
+
+pub last-begun : (line : List ℕ) → 0 < length line → answerText (lineAnswer line) ≡ lastText line
+unfolding lastText lineText
+last-begun [] h = absurd (omega arith)
+last-begun (b ∷ bs) h = refl

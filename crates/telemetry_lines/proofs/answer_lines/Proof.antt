@@ -1,63 +1,61 @@
+-- `telemetry_lines::answer_lines` meets its contract: each turn reads a part, and leaves the buffers as long as they were.
+-- The measure is the number of reads left.
+-- Assumes nothing.
+use mathlib.Core.Path.{_≡_, refl, _∙_}
+use Prim.Native.Nat.{_≤_}
+use native.Mathlib.Omega.{arith}
+use borrow.Author.Tests.{ltb-true}
+use lib.ListN.{length}
+use Rattle.telemetry_lines.specs.Stream.{mostKept}
 use Rattle.telemetry_lines.proofs.answer_lines.Statement.{statement}
 use Rattle.telemetry_lines.proofs.answer_lines.Tie as tie
-use Rattle.telemetry_lines.proofs.answer_lines.Reads as reads
-use Rattle.telemetry_lines.proofs.answer_lines.Lts as lts
-use Rattle.telemetry_lines.proofs.answer_part.Reads as answer-part-reads
-use Rattle.telemetry_lines.proofs.line.empty.Reads as empty-reads
 
 abbrev Inv-loop : tie.InvT-loop
-Inv-loop input₀ out₀ line₀ is-more₀ reads₀ input out line is-more reads = ?
+Inv-loop input₀ out₀ line₀ is-more₀ reads₀ input out line is-more reads =
+    (line .length ≤ mostKept) × (length input ≡ length input₀) × (length out ≡ length out₀)
 
 abbrev μ-loop : tie.MeasureT-loop
-μ-loop input₀ out₀ line₀ is-more₀ reads₀ input out line is-more reads = ?
+μ-loop input₀ out₀ line₀ is-more₀ reads₀ input out line is-more reads = reads
 
--- src/main.rt:84:9
 empty-requires : tie.Need-empty-requires Inv-loop μ-loop
-empty-requires c κs = ?
+empty-requires c κs = tt
 
--- src/main.rt:87:5
 loop-holds : tie.Need-loop-holds Inv-loop μ-loop
-loop-holds c = ?
+loop-holds c = (c .empty .ensures .1, refl, refl)
 
--- src/main.rt:88:13
 answer-part-requires : tie.Need-answer-part-requires Inv-loop μ-loop
-answer-part-requires c κs = ?
+answer-part-requires c κs =
+    let i = c .before .before .before .before .loop .inv in
+    (i .0, omega (arith, i .1, i .2))
 
--- src/main.rt:92:9
 sub-reads : tie.Need-sub-reads Inv-loop μ-loop
-sub-reads c = ?
+sub-reads c = omega (arith, ltb-true 0 (c .before .before .before .before .before .before .before .before .before .before .loop .reads) (c .before .before .before .before .before .before .before .before .if1 .taken))
 
--- src/main.rt:87:5
 loop-less : tie.Need-loop-less Inv-loop μ-loop
-loop-less c = ?
+loop-less c = omega (arith, ltb-true 0 (c .before .before .before .before .before .before .before .before .before .before .loop .reads) (c .before .before .before .before .before .before .before .before .if1 .taken))
 
--- src/main.rt:87:5
 loop-again : tie.Need-loop-again Inv-loop μ-loop
-loop-again c = ?
+loop-again c =
+    let i = c .before .before .before .before .before .before .before .before .before .before .loop .inv in
+    (c .before .before .before .before .before .answer-part .ensures, c .before .before .before .before .input .given ∙ i .1, c .before .before .out .given ∙ i .2)
 
--- src/main.rt:80:1
 same-length : tie.Need-same-length Inv-loop μ-loop
-same-length c = ?
+same-length c = c .before .before .loop .inv .1
 
--- src/main.rt:80:1
 same-length-2 : tie.Need-same-length-2 Inv-loop μ-loop
-same-length-2 c = ?
+same-length-2 c = c .before .before .loop .inv .2
 
--- src/main.rt:80:1
 returns : tie.Need-returns Inv-loop μ-loop
-returns c = ?
+returns c = c .before .before .loop .inv .0
 
--- src/main.rt:80:1
 same-length-3 : tie.Need-same-length-3 Inv-loop μ-loop
-same-length-3 c = ?
+same-length-3 c = c .before .loop .inv .1
 
--- src/main.rt:80:1
 same-length-4 : tie.Need-same-length-4 Inv-loop μ-loop
-same-length-4 c = ?
+same-length-4 c = c .before .loop .inv .2
 
--- src/main.rt:80:1
 returns-2 : tie.Need-returns-2 Inv-loop μ-loop
-returns-2 c = ?
+returns-2 c = c .before .loop .inv .0
 
 pub answer-lines-spec : {M : Type 1} → statement M
 answer-lines-spec =

@@ -39,7 +39,7 @@ power-in-requires : tie.Need-power-in-requires
 power-in-requires c κs = form (c .before .before)
 
 read-requires : tie.Need-read-requires
-read-requires c κs = ?
+read-requires c κs = search needs
 
 returns-2 : tie.Need-returns-2
 returns-2 c =

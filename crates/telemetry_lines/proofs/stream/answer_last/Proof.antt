@@ -1,30 +1,39 @@
+-- `telemetry_lines::stream::answer_last` meets its contract: nothing for no bytes, else the answer to those held.
+-- Assumes nothing.
+use mathlib.Core.Path.{_≡_}
+use Prim.Native.Nat.{_≤_, _<_}
+use native.Mathlib.Omega.{arith}
+use lib.ListN.{length}
+use Rattle.telemetry_lines.specs.Stream.{mostKept}
+use Rattle.telemetry_lines.specs.Buffer.{heldBy}
+use Rattle.telemetry_lines.proofs.PutLaws.{put-none}
+use Rattle.telemetry_lines.proofs.LineLaws.{held-none, held-count}
+use Rattle.telemetry_lines.proofs.StreamLaws.{last-none, last-begun}
 use borrow.Author.Needs.{needs}
 use Rattle.telemetry_lines.proofs.stream.answer_last.Statement.{statement}
 use Rattle.telemetry_lines.proofs.stream.answer_last.Tie as tie
-use Rattle.telemetry_lines.proofs.stream.answer_last.Reads as reads
-use Rattle.telemetry_lines.proofs.stream.answer_last.Lts as lts
-use Rattle.telemetry_lines.proofs.line.answer_held.Reads as answer-held-reads
-use Rattle.telemetry_lines.proofs.output.put_answer.Reads as put-answer-reads
 
--- src/stream.rt:49:9
 returns : tie.Need-returns
-returns c = ?
+returns c =
+    let a = c .before .before .before .args in
+    rw (held-none (a .line) (c .if1 .taken), last-none) (put-none (a .out .now) 0 (omega arith))
 
--- src/stream.rt:51:16
 answer-held-requires : tie.Need-answer-held-requires
 answer-held-requires c κs = search needs
 
--- src/stream.rt:51:5
 put-answer-requires : tie.Need-put-answer-requires
 put-answer-requires c κs = search needs
 
--- src/stream.rt:43:1
 same-length : tie.Need-same-length
 same-length c = search needs
 
--- src/stream.rt:43:1
 returns-2 : tie.Need-returns-2
-returns-2 c = ?
+returns-2 c =
+    let line = c .before .before .before .before .before .before .before .before .args .line in
+    let long : length (line .bytes) ≡ 15 = search needs in
+    let kept : line .length ≤ mostKept = c .before .before .before .before .before .before .before .before .pre .0 in
+    let some : 0 < line .length = omega (arith, c .before .before .before .before .before .if1 .left) in
+    rw (c .before .before .before .before .answer-held .ensures, last-begun (heldBy line) (omega (arith, held-count line long kept))) at (c .before .before .put-answer .ensures)
 
 pub answer-last-spec : {M : Type 1} → statement M
 answer-last-spec =
