@@ -1,22 +1,21 @@
 -- Laws of numbers as text, and the bounds of a line of output.
-use mathlib.Core.Path.{_≡_, refl, sym, ap, _∙_}
-use Prim.Native.Nat.{ℕ, zero, suc, _+_, _-_, _*_, _/_, _%_, _^_, _≤_, _<_}
-use native.Mathlib.Nat.{add-zero, zero-add, le-trans, pow-zero, pow-suc, pow-le-pow-right, div-lt-iff-lt-mul}
-use native.Mathlib.Numerals.{add-one}
+use mathlib.Core.Path.{_≡_, refl}
+use Prim.Native.Nat.{ℕ, zero, suc, _+_, _-_, _/_, _%_, _^_, _≤_, _<_}
+use native.Mathlib.Nat.{le-trans, pow-suc, pow-le-pow-right}
 use native.Mathlib.Omega.{arith}
-use mathlib.Core.Bool.{true, false, true≢false, cond}
-use mathlib.Core.List.{List, [], _∷_, _++_, append-assoc}
+use mathlib.Core.Bool.{true, false, true≢false}
+use mathlib.Core.List.{List, _∷_, _++_, append-assoc}
 use lib.Dec.{ltb}
 use lib.IntN.{ℤ, pos, negsuc, natAbs}
 use lib.ListN.{length, length-append}
 use lib.Signed.{ltZ}
 use borrow.Author.Tests.{lt-ltb, le-ltb, ltb-true}
 use Rattle.io.specs.Digits.{glyph, digits, Fewest}
-use Rattle.basics.proofs.Choice.{by-test, cond-both, below-or-not}
+use Rattle.basics.proofs.Choice.{cond-both}
 use Rattle.telemetry.specs.declared.Reading.{Reading}
 use Rattle.telemetry.specs.declared.Decoded.{Decoded}
 use Rattle.refusal.specs.declared.Refusal.{Refusal}
-use Rattle.telemetry_lines.specs.Text.{space, minus, newline, digitCharacter, decimalOf, decimalText, integerText, lineOf, readingText, positionText, sensorText, motionText, refusalText, answerText}
+use Rattle.telemetry_lines.specs.Text.{minus, digitCharacter, decimalOf, decimalText, integerText, lineOf, readingText, positionText, sensorText, motionText, refusalText, answerText}
 
 -- ---- Lengths
 

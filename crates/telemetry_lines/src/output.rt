@@ -5,7 +5,7 @@ ghost use mathlib.Core.List.{[], _∷_};
 ghost use Prim.Native.Nat.{_+_, _≤_};
 ghost use lib.IntN.{natAbs};
 ghost use lib.ListN.{length};
-ghost use Rattle.telemetry_lines.specs.Text.{space, newline, decimalText, integerText, header, positionText, sensorText, motionText, readingText, refusalText, answerText};
+ghost use Rattle.telemetry_lines.specs.Text.{space, decimalText, integerText, header, positionText, sensorText, motionText, readingText, refusalText, answerText};
 ghost use Rattle.telemetry_lines.specs.Buffer.{Put};
 use refusal::Refusal;
 use telemetry::Decoded;

@@ -1,6 +1,5 @@
 // The answers to the lines of a part of the input.
 ghost use mathlib.Core.Path.{_≡_};
-ghost use mathlib.Core.List.{[]};
 ghost use Prim.Native.Nat.{_*_, _≤_};
 ghost use lib.ListN.{length, take};
 ghost use Rattle.telemetry_lines.specs.Buffer.{Put, heldBy};

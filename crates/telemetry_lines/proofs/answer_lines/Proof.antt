@@ -4,8 +4,8 @@
 use mathlib.Core.Path.{_≡_, refl, _∙_}
 use Prim.Native.Nat.{_≤_}
 use native.Mathlib.Omega.{arith}
-use borrow.Author.Tests.{ltb-true}
 use lib.ListN.{length}
+use borrow.Author.Tests.{ltb-true}
 use Rattle.telemetry_lines.specs.Stream.{mostKept}
 use Rattle.telemetry_lines.proofs.answer_lines.Statement.{statement}
 use Rattle.telemetry_lines.proofs.answer_lines.Tie as tie
@@ -29,15 +29,20 @@ answer-part-requires c κs =
     (i .0, omega (arith, i .1, i .2))
 
 sub-reads : tie.Need-sub-reads Inv-loop μ-loop
-sub-reads c = omega (arith, ltb-true 0 (c .before .before .before .before .before .before .before .before .before .before .loop .reads) (c .before .before .before .before .before .before .before .before .if1 .taken))
+sub-reads c =
+    let test = c .before .before .before .before .before .before .before .before in
+    omega (arith, ltb-true 0 (test .before .before .loop .reads) (test .if1 .taken))
 
 loop-less : tie.Need-loop-less Inv-loop μ-loop
-loop-less c = omega (arith, ltb-true 0 (c .before .before .before .before .before .before .before .before .before .before .loop .reads) (c .before .before .before .before .before .before .before .before .if1 .taken))
+loop-less c =
+    let test = c .before .before .before .before .before .before .before .before in
+    omega (arith, ltb-true 0 (test .before .before .loop .reads) (test .if1 .taken))
 
 loop-again : tie.Need-loop-again Inv-loop μ-loop
 loop-again c =
-    let i = c .before .before .before .before .before .before .before .before .before .before .loop .inv in
-    (c .before .before .before .before .before .answer-part .ensures, c .before .before .before .before .input .given ∙ i .1, c .before .before .out .given ∙ i .2)
+    let part = c .before .before .before .before .before in
+    let i = part .before .before .before .before .before .loop .inv in
+    (part .answer-part .ensures, c .before .before .before .before .input .given ∙ i .1, c .before .before .out .given ∙ i .2)
 
 same-length : tie.Need-same-length Inv-loop μ-loop
 same-length c = c .before .before .loop .inv .1

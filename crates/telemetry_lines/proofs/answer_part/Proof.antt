@@ -1,7 +1,7 @@
 -- `telemetry_lines::answer_part` meets its contract: what is written is within the buffer.
 -- Assumes nothing.
-use Rattle.telemetry_lines.proofs.PutLaws.{put-count}
 use borrow.Author.Needs.{needs}
+use Rattle.telemetry_lines.proofs.PutLaws.{put-count}
 use Rattle.telemetry_lines.proofs.answer_part.Statement.{statement}
 use Rattle.telemetry_lines.proofs.answer_part.Tie as tie
 

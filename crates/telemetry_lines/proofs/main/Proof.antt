@@ -1,7 +1,7 @@
 -- `telemetry_lines::main` is safe and ends: the output of each part is written from within the buffer.
 -- Assumes nothing.
-use Rattle.telemetry_lines.proofs.PutLaws.{put-count}
 use borrow.Author.Needs.{needs}
+use Rattle.telemetry_lines.proofs.PutLaws.{put-count}
 use Rattle.telemetry_lines.proofs.main.Statement.{statement}
 use Rattle.telemetry_lines.proofs.main.Tie as tie
 

@@ -4,8 +4,8 @@ use mathlib.Core.Path.{_≡_, sym}
 use native.Mathlib.Omega.{arith}
 use lib.ListN.{length}
 use lib.Seq.{length-take-le}
-use Rattle.telemetry_lines.specs.Buffer.{heldBy}
 use borrow.Author.Needs.{needs}
+use Rattle.telemetry_lines.specs.Buffer.{heldBy}
 use Rattle.telemetry_lines.proofs.line.answer_held.Statement.{statement}
 use Rattle.telemetry_lines.proofs.line.answer_held.Tie as tie
 

@@ -2,13 +2,12 @@
 -- Assumes nothing.
 use mathlib.Core.Path.{_≡_, sym, _∙_}
 use native.Mathlib.Omega.{arith}
-use mathlib.Core.Bool.{true, false}
-use borrow.Author.Tests.{not-true, not-false}
-use lib.ListN.{length}
+use mathlib.Core.Bool.{true}
 use lib.Seq.{length-take-le}
-use Rattle.telemetry_lines.specs.Line.{hasForm, lineAnswer}
-use Rattle.telemetry_lines.proofs.LineLaws.{formed, answer-other, answer-formed}
+use borrow.Author.Tests.{not-true, not-false}
 use borrow.Author.Needs.{needs}
+use Rattle.telemetry_lines.specs.Line.{hasForm}
+use Rattle.telemetry_lines.proofs.LineLaws.{formed, answer-other, answer-formed}
 use Rattle.telemetry_lines.proofs.line.answer_of.Statement.{statement}
 use Rattle.telemetry_lines.proofs.line.answer_of.Tie as tie
 
@@ -43,8 +42,8 @@ read-requires c κs = search needs
 
 returns-2 : tie.Need-returns-2
 returns-2 c =
-    let line = c .before .before .before .before .before .before .before .args .line .now in
-    rw (answer-formed line (form (c .before .before .before .before)), ← c .before .power-in .ensures) (c .read .ensures .0)
+    let test = c .before .before .before .before in
+    rw (answer-formed (test .before .before .before .args .line .now) (form test), ← c .before .power-in .ensures) (c .read .ensures .0)
 
 pub answer-of-spec : {M : Type 1} → statement M
 answer-of-spec =

@@ -5,10 +5,10 @@ use mathlib.Core.Bool.{true, false}
 use mathlib.Core.Logic.{⊎-elim}
 use lib.ListN.{getD}
 use borrow.Author.Tests.{not-true, not-false, eqb-true, eqb-false}
+use borrow.Author.Needs.{needs}
 use Rattle.basics.specs.Test.{between}
 use Rattle.telemetry_lines.specs.Text.{space}
 use Rattle.telemetry_lines.proofs.LineLaws.{other-length, other-first-space, other-second-space, form-by-digits}
-use borrow.Author.Needs.{needs}
 use Rattle.telemetry_lines.proofs.line.has_form.Statement.{statement}
 use Rattle.telemetry_lines.proofs.line.has_form.Tie as tie
 
@@ -44,17 +44,23 @@ is-digit-requires-2 c κs = search needs
 
 returns-3 : tie.Need-returns-3
 returns-3 c =
-    let line = c .before .before .before .before .before .before .before .before .before .before .before .args .line .now in
-    let second = eqb-true _ space (not-false _ (c .before .before .before .before .before .if3 .left)) in
-    let tens : between 48 57 (getD line 12 0) ≡ true = sym (c .before .before .before .is-digit .ensures) ∙ c .before .before .if4 .taken in
-    rw (form-by-digits line (c .before .before .before .before .before .before .before .before .before .if1 .left) (c .before .before .before .before .before .before .before .if2 .left) second, tens) (c .is-digit2 .ensures)
+    let tens = c .before .before .before in
+    let second = tens .before .before in
+    let first = second .before .before in
+    let line = first .before .before .before .before .args .line .now in
+    let is-digit : between 48 57 (getD line 12 0) ≡ true = sym (tens .is-digit .ensures) ∙ c .before .before .if4 .taken in
+    rw (form-by-digits line (first .before .before .if1 .left) (first .if2 .left) (eqb-true _ space (not-false _ (second .if3 .left))), is-digit)
+    (c .is-digit2 .ensures)
 
 returns-4 : tie.Need-returns-4
 returns-4 c =
-    let line = c .before .before .before .before .before .before .before .before .before .args .line .now in
-    let second = eqb-true _ space (not-false _ (c .before .before .before .if3 .left)) in
-    let tens : between 48 57 (getD line 12 0) ≡ false = sym (c .before .is-digit .ensures) ∙ c .if4 .left in
-    rw (form-by-digits line (c .before .before .before .before .before .before .before .if1 .left) (c .before .before .before .before .before .if2 .left) second, tens) (c .if4 .left)
+    let tens = c .before in
+    let second = tens .before .before in
+    let first = second .before .before in
+    let line = first .before .before .before .before .args .line .now in
+    let no-digit : between 48 57 (getD line 12 0) ≡ false = sym (tens .is-digit .ensures) ∙ c .if4 .left in
+    rw (form-by-digits line (first .before .before .if1 .left) (first .if2 .left) (eqb-true _ space (not-false _ (second .if3 .left))), no-digit)
+    (c .if4 .left)
 
 pub has-form-spec : {M : Type 1} → statement M
 has-form-spec =

@@ -2,8 +2,8 @@
 -- Assumes nothing.
 use mathlib.Core.Path.{_≡_}
 use native.Mathlib.Omega.{arith}
-use borrow.Author.Needs.{needs}
 use lib.ListN.{length}
+use borrow.Author.Needs.{needs}
 use Rattle.telemetry_lines.specs.Buffer.{heldBy}
 use Rattle.telemetry_lines.proofs.LineLaws.{held-full, held-more}
 use Rattle.telemetry_lines.proofs.line.with_byte.Statement.{statement}

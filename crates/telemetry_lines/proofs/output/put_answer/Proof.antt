@@ -1,7 +1,7 @@
 -- `telemetry_lines::output::put_answer` meets its contract, case by case.
 -- Assumes nothing.
-use Rattle.telemetry_lines.specs.Text.{answerText}
 use borrow.Author.Needs.{needs}
+use Rattle.telemetry_lines.specs.Text.{answerText}
 use Rattle.telemetry_lines.proofs.output.put_answer.Statement.{statement}
 use Rattle.telemetry_lines.proofs.output.put_answer.Tie as tie
 
@@ -22,14 +22,18 @@ same-length c = search needs
 
 returns : tie.Need-returns
 unfolding answerText
-returns c = rw (c .before .before .before .before .before .answer .given .1) (c .before .before .put-reading .ensures)
+returns c =
+    let put = c .before .before in
+    rw (put .before .before .before .answer .given .1) (put .put-reading .ensures)
 
 same-length-2 : tie.Need-same-length-2
 same-length-2 c = search needs
 
 returns-2 : tie.Need-returns-2
 unfolding answerText
-returns-2 c = rw (c .before .before .before .before .before .answer2 .given .1) (c .before .before .put-refusal .ensures)
+returns-2 c =
+    let put = c .before .before in
+    rw (put .before .before .before .answer2 .given .1) (put .put-refusal .ensures)
 
 pub put-answer-spec : {M : Type 1} → statement M
 put-answer-spec =

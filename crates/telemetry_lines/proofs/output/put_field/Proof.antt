@@ -1,7 +1,7 @@
 -- `telemetry_lines::output::put_field` meets its contract: the space is put, and the number after it.
 -- Assumes nothing.
-use Rattle.telemetry_lines.proofs.PutLaws.{put-then}
 use borrow.Author.Needs.{needs}
+use Rattle.telemetry_lines.proofs.PutLaws.{put-then}
 use Rattle.telemetry_lines.proofs.output.put_field.Statement.{statement}
 use Rattle.telemetry_lines.proofs.output.put_field.Tie as tie
 
@@ -15,7 +15,10 @@ same-length : tie.Need-same-length
 same-length c = search needs
 
 returns : tie.Need-returns
-returns c = put-then (c .before .before .before .before .before .before .put-byte .ensures) (c .before .before .put-decimal .ensures)
+returns c =
+    let number = c .before .before in
+    let byte = number .before .before .before .before in
+    put-then (byte .put-byte .ensures) (number .put-decimal .ensures)
 
 pub put-field-spec : {M : Type 1} → statement M
 put-field-spec = tie.close (tie.spec put-byte-requires put-decimal-requires same-length returns)

@@ -1,7 +1,7 @@
 -- `telemetry_lines::output::put_header` meets its contract: the text is the definition's.
 -- Assumes nothing.
-use Rattle.telemetry_lines.specs.Text.{lineOf, header}
 use borrow.Author.Needs.{needs}
+use Rattle.telemetry_lines.specs.Text.{lineOf, header}
 use Rattle.telemetry_lines.proofs.output.put_header.Statement.{statement}
 use Rattle.telemetry_lines.proofs.output.put_header.Tie as tie
 

@@ -1,10 +1,9 @@
 -- `telemetry_lines::output::put_integer` meets its contract: the sign where there is one, and the magnitude.
 -- Assumes nothing.
-use mathlib.Core.Path.{_≡_}
 use mir.Facts.{toZ-ofZ}
+use borrow.Author.Needs.{needs}
 use Rattle.telemetry_lines.proofs.PutLaws.{put-then}
 use Rattle.telemetry_lines.proofs.TextLaws.{integer-negative, integer-positive}
-use borrow.Author.Needs.{needs}
 use Rattle.telemetry_lines.proofs.output.put_integer.Statement.{statement}
 use Rattle.telemetry_lines.proofs.output.put_integer.Tie as tie
 
@@ -22,10 +21,12 @@ same-length c = search needs
 
 returns : tie.Need-returns
 returns c =
-    let m = c .before .before .before .before in
-    let f = c .before .before .before .before .before .before .before .before .before .before .before .fits .number in
-    let text = integer-negative (c .before .before .before .before .before .before .before .before .before .before .before .args .number) (rw (toZ-ofZ f) at (c .before .before .before .before .before .before .before .before .before .if1 .taken)) in
-    rw text (put-then (c .before .before .before .before .before .before .before .put-byte .ensures) (rw (m .magnitude .ensures, toZ-ofZ f) at (c .before .before .put-decimal .ensures)))
+    let digits = c .before .before in
+    let byte = digits .before .before .before .before .before in
+    let start = byte .before .before .before .before in
+    let same = toZ-ofZ (start .fits .number) in
+    rw (integer-negative (start .args .number) (rw same at (byte .before .before .if1 .taken)))
+    (put-then (byte .put-byte .ensures) (rw (digits .before .before .magnitude .ensures, same) at (digits .put-decimal .ensures)))
 
 magnitude-requires-2 : tie.Need-magnitude-requires-2
 magnitude-requires-2 c κs = search needs
@@ -38,10 +39,11 @@ same-length-2 c = search needs
 
 returns-2 : tie.Need-returns-2
 returns-2 c =
-    let m = c .before .before .before .before in
-    let f = c .before .before .before .before .before .before .before .fits .number in
-    let text = integer-positive (c .before .before .before .before .before .before .before .args .number) (rw (toZ-ofZ f) at (c .before .before .before .before .before .if1 .left)) in
-    rw text (rw (m .magnitude2 .ensures, toZ-ofZ f) at (c .before .before .put-decimal2 .ensures))
+    let digits = c .before .before in
+    let start = digits .before .before .before .before .before in
+    let same = toZ-ofZ (start .fits .number) in
+    rw (integer-positive (start .args .number) (rw same at (digits .before .before .before .if1 .left)))
+    (rw (digits .before .before .magnitude2 .ensures, same) at (digits .put-decimal2 .ensures))
 
 pub put-integer-spec : {M : Type 1} → statement M
 put-integer-spec =

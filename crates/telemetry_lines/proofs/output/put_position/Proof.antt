@@ -1,8 +1,8 @@
 -- `telemetry_lines::output::put_position` meets its contract: one part is put after the other.
 -- Assumes nothing.
+use borrow.Author.Needs.{needs}
 use Rattle.telemetry_lines.specs.Text.{positionText}
 use Rattle.telemetry_lines.proofs.PutLaws.{put-then}
-use borrow.Author.Needs.{needs}
 use Rattle.telemetry_lines.proofs.output.put_position.Statement.{statement}
 use Rattle.telemetry_lines.proofs.output.put_position.Tie as tie
 
@@ -20,7 +20,10 @@ same-length c = search needs
 
 returns : tie.Need-returns
 unfolding positionText
-returns c = put-then (c .before .before .before .before .before .before .put .ensures) (c .before .before .put-field .ensures)
+returns c =
+    let altitude = c .before .before in
+    let place = altitude .before .before .before .before in
+    put-then (place .put .ensures) (altitude .put-field .ensures)
 
 pub put-position-spec : {M : Type 1} → statement M
 put-position-spec =

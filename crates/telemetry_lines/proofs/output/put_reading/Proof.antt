@@ -1,12 +1,9 @@
 -- `telemetry_lines::output::put_reading` meets its contract: its parts are put one after the other.
 -- Assumes nothing.
 use native.Mathlib.Omega.{arith}
-use lib.ListN.{length}
+use borrow.Author.Needs.{needs}
 use Rattle.telemetry_lines.proofs.PutLaws.{put-then, put-length}
 use Rattle.telemetry_lines.proofs.TextLaws.{length-position, length-sensors, reading-parts}
-use Rattle.telemetry_lines.proofs.PutLaws.{put-then}
-use Rattle.telemetry_lines.proofs.TextLaws.{reading-parts}
-use borrow.Author.Needs.{needs}
 use Rattle.telemetry_lines.proofs.output.put_reading.Statement.{statement}
 use Rattle.telemetry_lines.proofs.output.put_reading.Tie as tie
 
@@ -29,7 +26,12 @@ same-length : tie.Need-same-length
 same-length c = search needs
 
 returns : tie.Need-returns
-returns c = rw reading-parts at (put-then (c .before .before .before .before .before .before .before .before .before .before .put-position .ensures) (put-then (c .before .before .before .before .before .before .put-sensors .ensures) (c .before .before .put-motion .ensures)))
+returns c =
+    let motion = c .before .before in
+    let sensors = motion .before .before .before .before in
+    let position = sensors .before .before .before .before in
+    rw reading-parts at
+    (put-then (position .put-position .ensures) (put-then (sensors .put-sensors .ensures) (motion .put-motion .ensures)))
 
 pub put-reading-spec : {M : Type 1} → statement M
 put-reading-spec =

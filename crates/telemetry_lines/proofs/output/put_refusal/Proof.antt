@@ -1,12 +1,10 @@
 -- `telemetry_lines::output::put_refusal` meets its contract: one part is put after the other.
 -- Assumes nothing.
 use native.Mathlib.Omega.{arith}
-use lib.ListN.{length}
+use borrow.Author.Needs.{needs}
 use Rattle.telemetry_lines.specs.Text.{lineOf, refusalText}
 use Rattle.telemetry_lines.proofs.PutLaws.{put-then, put-length}
 use Rattle.telemetry_lines.proofs.TextLaws.{length-decimal}
-use Rattle.telemetry_lines.proofs.PutLaws.{put-then}
-use borrow.Author.Needs.{needs}
 use Rattle.telemetry_lines.proofs.output.put_refusal.Statement.{statement}
 use Rattle.telemetry_lines.proofs.output.put_refusal.Tie as tie
 
@@ -21,9 +19,11 @@ put-field-requires c κs = search needs
 
 put-field-requires-2 : tie.Need-put-field-requires-2
 put-field-requires-2 c κs =
-    let p = c .before .before .before in
-    let start = p .before .before .before .before in
-    omega (arith, p .put-field .ensures .ends, put-length (p .put-field .ensures), start .put .ensures .ends, put-length (start .put .ensures), length-decimal (start .before .before .before .before .args .refusal .number))
+    let number = c .before .before .before in
+    let start = number .before .before .before .before in
+    let text = length-decimal (start .before .before .before .before .args .refusal .number) in
+    let both = put-then (start .put .ensures) (number .put-field .ensures) in
+    omega (arith, both .ends, put-length both)
 
 put-byte-requires : tie.Need-put-byte-requires
 put-byte-requires c κs =
@@ -39,8 +39,12 @@ same-length c = search needs
 returns : tie.Need-returns
 unfolding refusalText lineOf
 returns c =
-    put-then (c .before .before .before .before .before .before .before .before .before .before .before .before .before .before .put .ensures)
-    (put-then (c .before .before .before .before .before .before .before .before .before .before .put-field .ensures) (put-then (c .before .before .before .before .before .before .put-field2 .ensures) (c .before .before .put-byte .ensures)))
+    let end = c .before .before in
+    let place = end .before .before .before .before in
+    let number = place .before .before .before .before in
+    let start = number .before .before .before .before in
+    put-then (start .put .ensures)
+    (put-then (number .put-field .ensures) (put-then (place .put-field2 .ensures) (end .put-byte .ensures)))
 
 pub put-refusal-spec : {M : Type 1} → statement M
 put-refusal-spec =

@@ -2,16 +2,13 @@
 -- Assumes nothing.
 use mathlib.Core.Path.{_≡_}
 use native.Mathlib.Omega.{arith}
-use lib.ListN.{length}
 use mir.Facts.{toZ-ofZ}
 use mir.Syntax.{w32}
-use mir.Val.{SFits, toZ, ofZ}
-use Rattle.telemetry_lines.specs.Text.{integerText, sensorText}
+use mir.Val.{toZ, ofZ}
+use borrow.Author.Needs.{needs}
+use Rattle.telemetry_lines.specs.Text.{sensorText}
 use Rattle.telemetry_lines.proofs.PutLaws.{put-then, put-length}
 use Rattle.telemetry_lines.proofs.TextLaws.{length-integer}
-use Rattle.telemetry_lines.specs.Text.{sensorText}
-use Rattle.telemetry_lines.proofs.PutLaws.{put-then}
-use borrow.Author.Needs.{needs}
 use Rattle.telemetry_lines.proofs.output.put_sensors.Statement.{statement}
 use Rattle.telemetry_lines.proofs.output.put_sensors.Tie as tie
 
@@ -26,7 +23,8 @@ put-signed-field-requires c κs = search needs
 put-field-requires : tie.Need-put-field-requires
 put-field-requires c κs =
     let p = c .before .before .before in
-    omega (arith, p .put-signed-field .ensures .ends, put-length (p .put-signed-field .ensures), length-integer (toZ w32 (ofZ w32 (p .before .before .before .before .args .reading .temperature))))
+    let text = length-integer (toZ w32 (ofZ w32 (p .before .before .before .before .args .reading .temperature))) in
+    omega (arith, p .put-signed-field .ensures .ends, put-length (p .put-signed-field .ensures))
 
 same-length : tie.Need-same-length
 same-length c = search needs
@@ -34,8 +32,9 @@ same-length c = search needs
 returns : tie.Need-returns
 unfolding sensorText
 returns c =
-    let p = c .before .before .before .before .before .before in
-    put-then (rw (same p) at (p .put-signed-field .ensures)) (c .before .before .put-field .ensures)
+    let voltage = c .before .before in
+    let temperature = voltage .before .before .before .before in
+    put-then (rw (same temperature) at (temperature .put-signed-field .ensures)) (voltage .put-field .ensures)
 
 pub put-sensors-spec : {M : Type 1} → statement M
 put-sensors-spec =

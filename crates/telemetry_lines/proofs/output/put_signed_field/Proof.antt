@@ -1,8 +1,8 @@
 -- `telemetry_lines::output::put_signed_field` meets its contract: the space is put, and the number after it.
 -- Assumes nothing.
 use mir.Facts.{toZ-ofZ}
-use Rattle.telemetry_lines.proofs.PutLaws.{put-then}
 use borrow.Author.Needs.{needs}
+use Rattle.telemetry_lines.proofs.PutLaws.{put-then}
 use Rattle.telemetry_lines.proofs.output.put_signed_field.Statement.{statement}
 use Rattle.telemetry_lines.proofs.output.put_signed_field.Tie as tie
 
@@ -16,7 +16,10 @@ same-length : tie.Need-same-length
 same-length c = search needs
 
 returns : tie.Need-returns
-returns c = put-then (c .before .before .before .before .before .before .put-byte .ensures) (rw (toZ-ofZ (c .before .before .before .before .before .before .before .before .before .fits .number)) at (c .before .before .put-integer .ensures))
+returns c =
+    let number = c .before .before in
+    let byte = number .before .before .before .before in
+    put-then (byte .put-byte .ensures) (rw (toZ-ofZ (byte .before .before .before .fits .number)) at (number .put-integer .ensures))
 
 pub put-signed-field-spec : {M : Type 1} → statement M
 put-signed-field-spec =

@@ -1,9 +1,8 @@
 -- `telemetry_lines::stream::answer` meets its contract: each turn takes a byte of the part. The measure is what is left of it.
 -- Assumes nothing.
-use mathlib.Core.Path.{_≡_, sym, ap, _∙_}
 use Prim.Native.Nat.{_-_, _≤_}
-use mathlib.Core.Logic.{⊎-elim}
 use native.Mathlib.Omega.{arith}
+use mathlib.Core.Logic.{⊎-elim}
 use lib.ListN.{length}
 use Rattle.telemetry_lines.specs.Stream.{mostKept}
 use Rattle.telemetry_lines.specs.Buffer.{heldBy}
@@ -33,7 +32,9 @@ answer-held-requires : tie.Need-answer-held-requires Inv-loop μ-loop
 answer-held-requires c κs = c .before .before .before .loop .inv .1
 
 put-answer-requires : tie.Need-put-answer-requires Inv-loop μ-loop
-put-answer-requires c κs = answering-room (c .before .before .before .before .before .loop .inv .0) (omega arith) (c .before .before .before .before .before .before .before .before .pre .1)
+put-answer-requires c κs =
+    let l = c .before .before .before .before .before in
+    answering-room (l .loop .inv .0) (omega arith) (l .before .before .before .pre .1)
 
 empty-requires : tie.Need-empty-requires Inv-loop μ-loop
 empty-requires c κs = tt

@@ -4,12 +4,12 @@ use mathlib.Core.Path.{_≡_}
 use Prim.Native.Nat.{_≤_, _<_}
 use native.Mathlib.Omega.{arith}
 use lib.ListN.{length}
+use borrow.Author.Needs.{needs}
 use Rattle.telemetry_lines.specs.Stream.{mostKept}
 use Rattle.telemetry_lines.specs.Buffer.{heldBy}
 use Rattle.telemetry_lines.proofs.PutLaws.{put-none}
 use Rattle.telemetry_lines.proofs.LineLaws.{held-none, held-count}
 use Rattle.telemetry_lines.proofs.StreamLaws.{last-none, last-begun}
-use borrow.Author.Needs.{needs}
 use Rattle.telemetry_lines.proofs.stream.answer_last.Statement.{statement}
 use Rattle.telemetry_lines.proofs.stream.answer_last.Tie as tie
 
@@ -29,11 +29,14 @@ same-length c = search needs
 
 returns-2 : tie.Need-returns-2
 returns-2 c =
-    let line = c .before .before .before .before .before .before .before .before .args .line in
+    let put = c .before .before in
+    let answer = put .before .before in
+    let start = answer .before .before .before .before in
+    let line = start .args .line in
     let long : length (line .bytes) ≡ 15 = search needs in
-    let kept : line .length ≤ mostKept = c .before .before .before .before .before .before .before .before .pre .0 in
-    let some : 0 < line .length = omega (arith, c .before .before .before .before .before .if1 .left) in
-    rw (c .before .before .before .before .answer-held .ensures, last-begun (heldBy line) (omega (arith, held-count line long kept))) at (c .before .before .put-answer .ensures)
+    let kept : line .length ≤ mostKept = start .pre .0 in
+    let some : 0 < line .length = omega (arith, answer .before .if1 .left) in
+    rw (answer .answer-held .ensures, last-begun (heldBy line) (omega (arith, held-count line long kept))) at (put .put-answer .ensures)
 
 pub answer-last-spec : {M : Type 1} → statement M
 answer-last-spec =
