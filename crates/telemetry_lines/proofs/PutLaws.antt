@@ -5,8 +5,8 @@ use native.Mathlib.Nat.{add-zero, add-suc, suc-add}
 use native.Mathlib.Numerals.{add-one}
 use native.Mathlib.Omega.{arith}
 use mathlib.Core.List.{List, [], _∷_, _++_}
-use lib.ListN.{length, getD, take, drop, set, length-append}
-use lib.Seq.{sets, sets-eq, length-sets, take-suc, take-all, take-at, length-take-le}
+use lib.ListN.{length, getD, take, set, length-append}
+use lib.Seq.{sets, sets-eq, length-sets, take-suc, take-all, length-take-le}
 use Rattle.telemetry_lines.specs.Buffer.{placed, Put}
 
 -- One run of stores after another is one run.
@@ -45,11 +45,6 @@ put-then {a} {b} {c} {at} {middle} {end} {xs} {ys} p q =
     (put-as-sets q ∙ rw (put-as-sets p, p .ends) (sets-append a at xs ys))
     (omega (arith, length-append xs ys, p .ends, q .ends))
     (omega (arith, q .room, put-length p))
-
--- What stands in the buffer up to the end of a text that was put at its start.
-pub put-text : {before after : List ℕ} {end : ℕ} {text : List ℕ} → Put before after 0 end text → take end after ≡ text
-unfolding placed
-put-text {before} {after} {end} {text} p = rw (p .content) (take-at text (drop (0 + length text) before) end (omega (arith, p .ends)))
 
 -- ---- A loop that copies a text
 

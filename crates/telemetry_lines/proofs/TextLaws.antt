@@ -15,7 +15,7 @@ use Rattle.basics.proofs.Choice.{cond-both}
 use Rattle.telemetry.specs.declared.Reading.{Reading}
 use Rattle.telemetry.specs.declared.Decoded.{Decoded}
 use Rattle.refusal.specs.declared.Refusal.{Refusal}
-use Rattle.telemetry_lines.specs.Text.{minus, digitCharacter, decimalOf, decimalText, integerText, lineOf, readingText, positionText, sensorText, motionText, refusalText, answerText}
+use Rattle.telemetry_lines.specs.Text.{minus, digitCharacter, decimalOf, decimalText, integerText, lineOf, readingText, positionText, firstSensorText, lastSensorText, refusalText, answerText}
 
 -- ---- Lengths
 
@@ -112,14 +112,14 @@ integer-positive (negsuc n) e = absurd (true≢false e)
 
 -- ---- A reading's line in its parts
 
-pub reading-parts : (r : Reading) → positionText r ++ (sensorText r ++ motionText r) ≡ readingText r
-unfolding readingText lineOf positionText sensorText motionText
+pub reading-parts : (r : Reading) → positionText r ++ (firstSensorText r ++ lastSensorText r) ≡ readingText r
+unfolding readingText lineOf positionText firstSensorText lastSensorText
 reading-parts r = simp append-assoc
 
 pub length-position : (r : Reading) → length (positionText r) ≤ 16
 unfolding positionText
 length-position r = omega (arith, length-decimal (r .altitude))
 
-pub length-sensors : (r : Reading) → length (sensorText r) ≤ 23
-unfolding sensorText
-length-sensors r = simp length-append (omega (arith, length-integer (r .temperature), length-decimal (r .voltage)))
+pub length-first-sensors : (r : Reading) → length (firstSensorText r) ≤ 23
+unfolding firstSensorText
+length-first-sensors r = simp length-append (omega (arith, length-integer (r .temperature), length-decimal (r .voltage)))

@@ -80,12 +80,12 @@ unfoldable pub positionText : Reading → List ℕ
 positionText r = r .first ∷ r .third ∷ space ∷ r .grid5 ∷ r .grid6 ∷ space ∷ decimalText (r .altitude)
 
 -- temperature and voltage,
-unfoldable pub sensorText : Reading → List ℕ
-sensorText r = space ∷ integerText (r .temperature) ++ (space ∷ decimalText (r .voltage))
+unfoldable pub firstSensorText : Reading → List ℕ
+firstSensorText r = space ∷ integerText (r .temperature) ++ (space ∷ decimalText (r .voltage))
 
 -- speed, GPS and the newline.
-unfoldable pub motionText : Reading → List ℕ
-motionText r = space ∷ decimalText (r .speed) ++ (space ∷ decimalText (r .gps) ++ (newline ∷ []))
+unfoldable pub lastSensorText : Reading → List ℕ
+lastSensorText r = space ∷ decimalText (r .speed) ++ (space ∷ decimalText (r .gps) ++ (newline ∷ []))
 
 -- "refused", the refusal's number and its place.
 unfoldable pub refusalText : Refusal → List ℕ

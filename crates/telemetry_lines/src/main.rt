@@ -24,59 +24,41 @@ use libc::STDIN_FILENO;
 use libc::STDOUT_FILENO;
 use line::Line;
 
-// What a read gave: how many bytes of the input, where their output ends, and the line that is then
-// begun.
+// What a read gave: the line that is then begun, how many bytes of the input there were, where their
+// output ends in the buffer, and whether it is written.
 struct Part {
     line: Line,
     count: usize,
     end: usize,
+    is_written: bool,
 }
 
-// The line that is begun, and whether to read on.
-struct Step {
-    line: Line,
-    is_more: bool,
-}
-
-// Reads a part of the input, and puts its output to the start of `out`. An input that can't be read
-// has ended.
-fn read_part(line: Line, input: &mut [u8], out: &mut [u8]) -> Part
+// Reads a part of the input, where the line has begun, and writes its output by way of `out`. An
+// input that can't be read has ended.
+fn answer_part(line: Line, input: &mut [u8], out: &mut [u8]) -> Part
     requires { ⌜ line .length ≤ mostKept ⌝ }
     requires { ⌜ 62 * length (now input) ≤ length (now out) ⌝ }
-    ensures { λ r. ⌜ Put (now (out .entry)) (now (out .exit)) 0 (r .end) (outputAfter (heldBy line) (take (r .count) (now (input .exit)))) ⌝ }
-    ensures { λ r. ⌜ heldBy (r .line) ≡ take mostKept (lineAfter (heldBy line) (take (r .count) (now (input .exit)))) ⌝ }
-    ensures { λ r. ⌜ r .line .length ≤ mostKept ⌝ }
+    ensures output { λ r. ⌜ Put (now (out .entry)) (now (out .exit)) 0 (r .end) (outputAfter (heldBy line) (take (r .count) (now (input .exit)))) ⌝ }
+    ensures line { λ r. ⌜ heldBy (r .line) ≡ take mostKept (lineAfter (heldBy line) (take (r .count) (now (input .exit)))) ⌝ }
+    ensures kept { λ r. ⌜ r .line .length ≤ mostKept ⌝ }
 {
     let got = libc::read(STDIN_FILENO, input);
     let count = io::count(got, input);
     let answered = stream::answer(line, &input[..count], out);
     let begun = answered.line;
+    let end = answered.end;
+    let is_written = io::write_all(STDOUT_FILENO, &out[..end]);
     Part {
         line: begun,
         count,
-        end: answered.end,
+        end,
+        is_written,
     }
 }
 
-// Reads a part of the input, and writes its output. Where that can't be written, nothing more is
-// read.
-fn answer_part(line: Line, input: &mut [u8], out: &mut [u8]) -> Step
-    requires { ⌜ line .length ≤ mostKept ⌝ }
-    requires { ⌜ 62 * length (now input) ≤ length (now out) ⌝ }
-    ensures { λ r. ⌜ r .line .length ≤ mostKept ⌝ }
-{
-    let part = read_part(line, input, out);
-    let begun = part.line;
-    let end = part.end;
-    let is_written = io::write_all(STDOUT_FILENO, &out[..end]);
-    Step {
-        line: begun,
-        is_more: is_written && 0 < part.count,
-    }
-}
-
-// Answers the lines that newlines end, and returns the line that none does. A loop has to end, and
-// nothing says that an input does: so the reads are counted down, from a number that no run uses up.
+// Answers the lines that newlines end, and returns the line that none does. It ends with the input,
+// or where the output can't be written. A loop has to end, and nothing says that an input does: so
+// the reads are counted down, from a number that no run uses up.
 fn answer_lines(input: &mut [u8], out: &mut [u8]) -> Line
     requires { ⌜ 62 * length (now input) ≤ length (now out) ⌝ }
     ensures { λ r. ⌜ r .length ≤ mostKept ⌝ }
@@ -85,10 +67,10 @@ fn answer_lines(input: &mut [u8], out: &mut [u8]) -> Line
     let mut is_more = true;
     let mut reads = u64::MAX;
     while is_more && 0 < reads {
-        let step = answer_part(line, input, out);
-        let begun = step.line;
+        let part = answer_part(line, input, out);
+        let begun = part.line;
         line = begun;
-        is_more = step.is_more;
+        is_more = part.is_written && 0 < part.count;
         reads -= 1;
     }
     line

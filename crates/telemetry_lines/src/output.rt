@@ -5,7 +5,7 @@ ghost use mathlib.Core.List.{[], _∷_};
 ghost use Prim.Native.Nat.{_+_, _≤_};
 ghost use lib.IntN.{natAbs};
 ghost use lib.ListN.{length};
-ghost use Rattle.telemetry_lines.specs.Text.{space, decimalText, integerText, header, positionText, sensorText, motionText, readingText, refusalText, answerText};
+ghost use Rattle.telemetry_lines.specs.Text.{space, decimalText, integerText, header, positionText, firstSensorText, lastSensorText, readingText, refusalText, answerText};
 ghost use Rattle.telemetry_lines.specs.Buffer.{Put};
 use refusal::Refusal;
 use telemetry::Decoded;
@@ -103,18 +103,18 @@ fn put_position(reading: Reading, out: &mut [u8], at: usize) -> usize
 }
 
 // Temperature and voltage.
-fn put_sensors(reading: Reading, out: &mut [u8], at: usize) -> usize
+fn put_first_sensors(reading: Reading, out: &mut [u8], at: usize) -> usize
     requires { ⌜ at + 23 ≤ length (now out) ⌝ }
-    ensures { λ r. ⌜ Put (now (out .entry)) (now (out .exit)) at r (sensorText reading) ⌝ }
+    ensures { λ r. ⌜ Put (now (out .entry)) (now (out .exit)) at r (firstSensorText reading) ⌝ }
 {
     let next = put_signed_field(reading.temperature, out, at);
     put_field(reading.voltage, out, next)
 }
 
 // Speed and GPS, and the end of the line.
-fn put_motion(reading: Reading, out: &mut [u8], at: usize) -> usize
+fn put_last_sensors(reading: Reading, out: &mut [u8], at: usize) -> usize
     requires { ⌜ at + 23 ≤ length (now out) ⌝ }
-    ensures { λ r. ⌜ Put (now (out .entry)) (now (out .exit)) at r (motionText reading) ⌝ }
+    ensures { λ r. ⌜ Put (now (out .entry)) (now (out .exit)) at r (lastSensorText reading) ⌝ }
 {
     let gps = put_field(reading.speed, out, at);
     let end = put_field(reading.gps, out, gps);
@@ -125,9 +125,9 @@ fn put_reading(reading: Reading, out: &mut [u8], at: usize) -> usize
     requires { ⌜ at + 62 ≤ length (now out) ⌝ }
     ensures { λ r. ⌜ Put (now (out .entry)) (now (out .exit)) at r (readingText reading) ⌝ }
 {
-    let sensors = put_position(reading, out, at);
-    let motion = put_sensors(reading, out, sensors);
-    put_motion(reading, out, motion)
+    let first = put_position(reading, out, at);
+    let last = put_first_sensors(reading, out, first);
+    put_last_sensors(reading, out, last)
 }
 
 fn put_refusal(refusal: Refusal, out: &mut [u8], at: usize) -> usize

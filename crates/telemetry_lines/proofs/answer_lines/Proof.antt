@@ -30,19 +30,19 @@ answer-part-requires c κs =
 
 sub-reads : tie.Need-sub-reads Inv-loop μ-loop
 sub-reads c =
-    let test = c .before .before .before .before .before .before .before .before in
+    let test = c .before .before .before .before .before .before .before .before .before in
     omega (arith, ltb-true 0 (test .before .before .loop .reads) (test .if1 .taken))
 
 loop-less : tie.Need-loop-less Inv-loop μ-loop
 loop-less c =
-    let test = c .before .before .before .before .before .before .before .before in
+    let test = c .before .before .before .before .before .before .before .before .before in
     omega (arith, ltb-true 0 (test .before .before .loop .reads) (test .if1 .taken))
 
 loop-again : tie.Need-loop-again Inv-loop μ-loop
 loop-again c =
-    let part = c .before .before .before .before .before in
+    let part = c .before .before .before .before .before .before in
     let i = part .before .before .before .before .before .loop .inv in
-    (part .answer-part .ensures, c .before .before .before .before .input .given ∙ i .1, c .before .before .out .given ∙ i .2)
+    (part .answer-part .ensures .1 .1, c .before .before .before .before .before .input .given ∙ i .1, c .before .before .before .out .given ∙ i .2)
 
 same-length : tie.Need-same-length Inv-loop μ-loop
 same-length c = c .before .before .loop .inv .1

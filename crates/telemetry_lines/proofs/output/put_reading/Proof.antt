@@ -3,37 +3,37 @@
 use native.Mathlib.Omega.{arith}
 use borrow.Author.Needs.{needs}
 use Rattle.telemetry_lines.proofs.PutLaws.{put-then, put-length}
-use Rattle.telemetry_lines.proofs.TextLaws.{length-position, length-sensors, reading-parts}
+use Rattle.telemetry_lines.proofs.TextLaws.{length-position, length-first-sensors, reading-parts}
 use Rattle.telemetry_lines.proofs.output.put_reading.Statement.{statement}
 use Rattle.telemetry_lines.proofs.output.put_reading.Tie as tie
 
 put-position-requires : tie.Need-put-position-requires
 put-position-requires c κs = search needs
 
-put-sensors-requires : tie.Need-put-sensors-requires
-put-sensors-requires c κs =
+put-first-sensors-requires : tie.Need-put-first-sensors-requires
+put-first-sensors-requires c κs =
     let p = c .before .before .before in
     omega (arith, p .put-position .ensures .ends, put-length (p .put-position .ensures), length-position (p .before .before .before .args .reading))
 
-put-motion-requires : tie.Need-put-motion-requires
-put-motion-requires c κs =
+put-last-sensors-requires : tie.Need-put-last-sensors-requires
+put-last-sensors-requires c κs =
     let q = c .before .before .before in
     let p = q .before .before .before .before in
     let r = p .before .before .before .args .reading in
-    omega (arith, q .put-sensors .ensures .ends, put-length (q .put-sensors .ensures), p .put-position .ensures .ends, put-length (p .put-position .ensures), length-position r, length-sensors r)
+    omega (arith, q .put-first-sensors .ensures .ends, put-length (q .put-first-sensors .ensures), p .put-position .ensures .ends, put-length (p .put-position .ensures), length-position r, length-first-sensors r)
 
 same-length : tie.Need-same-length
 same-length c = search needs
 
 returns : tie.Need-returns
 returns c =
-    let motion = c .before .before in
-    let sensors = motion .before .before .before .before in
-    let position = sensors .before .before .before .before in
+    let last = c .before .before in
+    let first = last .before .before .before .before in
+    let position = first .before .before .before .before in
     rw reading-parts at
-    (put-then (position .put-position .ensures) (put-then (sensors .put-sensors .ensures) (motion .put-motion .ensures)))
+    (put-then (position .put-position .ensures) (put-then (first .put-first-sensors .ensures) (last .put-last-sensors .ensures)))
 
 pub put-reading-spec : {M : Type 1} → statement M
 put-reading-spec =
     tie.close
-    (tie.spec put-position-requires put-sensors-requires put-motion-requires same-length returns)
+    (tie.spec put-position-requires put-first-sensors-requires put-last-sensors-requires same-length returns)

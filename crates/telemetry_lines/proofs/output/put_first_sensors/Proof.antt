@@ -1,4 +1,4 @@
--- `telemetry_lines::output::put_sensors` meets its contract: one part is put after the other.
+-- `telemetry_lines::output::put_first_sensors` meets its contract: one part is put after the other.
 -- Assumes nothing.
 use mathlib.Core.Path.{_≡_}
 use native.Mathlib.Omega.{arith}
@@ -6,11 +6,11 @@ use mir.Facts.{toZ-ofZ}
 use mir.Syntax.{w32}
 use mir.Val.{toZ, ofZ}
 use borrow.Author.Needs.{needs}
-use Rattle.telemetry_lines.specs.Text.{sensorText}
+use Rattle.telemetry_lines.specs.Text.{firstSensorText}
 use Rattle.telemetry_lines.proofs.PutLaws.{put-then, put-length}
 use Rattle.telemetry_lines.proofs.TextLaws.{length-integer}
-use Rattle.telemetry_lines.proofs.output.put_sensors.Statement.{statement}
-use Rattle.telemetry_lines.proofs.output.put_sensors.Tie as tie
+use Rattle.telemetry_lines.proofs.output.put_first_sensors.Statement.{statement}
+use Rattle.telemetry_lines.proofs.output.put_first_sensors.Tie as tie
 
 -- The temperature fits, so that what is put is its text.
 same : (c : tie.After-put-signed-field)
@@ -30,12 +30,12 @@ same-length : tie.Need-same-length
 same-length c = search needs
 
 returns : tie.Need-returns
-unfolding sensorText
+unfolding firstSensorText
 returns c =
     let voltage = c .before .before in
     let temperature = voltage .before .before .before .before in
     put-then (rw (same temperature) at (temperature .put-signed-field .ensures)) (voltage .put-field .ensures)
 
-pub put-sensors-spec : {M : Type 1} → statement M
-put-sensors-spec =
+pub put-first-sensors-spec : {M : Type 1} → statement M
+put-first-sensors-spec =
     tie.close (tie.spec put-signed-field-requires put-field-requires same-length returns)

@@ -1,14 +1,14 @@
--- `telemetry_lines::output::put_motion` meets its contract: one part is put after the other.
+-- `telemetry_lines::output::put_last_sensors` meets its contract: one part is put after the other.
 -- Assumes nothing.
 use native.Mathlib.Omega.{arith}
 use mathlib.Core.List.{_∷_}
 use lib.ListN.{length-append}
 use borrow.Author.Needs.{needs}
-use Rattle.telemetry_lines.specs.Text.{space, decimalText, motionText}
+use Rattle.telemetry_lines.specs.Text.{space, decimalText, lastSensorText}
 use Rattle.telemetry_lines.proofs.PutLaws.{put-then, put-length}
 use Rattle.telemetry_lines.proofs.TextLaws.{length-decimal}
-use Rattle.telemetry_lines.proofs.output.put_motion.Statement.{statement}
-use Rattle.telemetry_lines.proofs.output.put_motion.Tie as tie
+use Rattle.telemetry_lines.proofs.output.put_last_sensors.Statement.{statement}
+use Rattle.telemetry_lines.proofs.output.put_last_sensors.Tie as tie
 
 put-field-requires : tie.Need-put-field-requires
 put-field-requires c κs = search needs
@@ -38,14 +38,14 @@ same-length : tie.Need-same-length
 same-length c = search needs
 
 returns : tie.Need-returns
-unfolding motionText
+unfolding lastSensorText
 returns c =
     let end = c .before .before in
     let gps = end .before .before .before .before in
     let speed = gps .before .before .before .before in
     put-then (speed .put-field .ensures) (put-then (gps .put-field2 .ensures) (end .put-byte .ensures))
 
-pub put-motion-spec : {M : Type 1} → statement M
-put-motion-spec =
+pub put-last-sensors-spec : {M : Type 1} → statement M
+put-last-sensors-spec =
     tie.close
     (tie.spec put-field-requires put-field-requires-2 put-byte-requires same-length returns)
