@@ -9,7 +9,7 @@ use lib.ListN.{length, getD, take, length-append}
 use lib.Seq.{take-suc, take-all, take-take, length-take-le}
 use borrow.Author.Tests.{eq-eqb, ne-eqb}
 use Rattle.basics.proofs.Choice.{by-test, cond-both}
-use Rattle.telemetry_lines.specs.Text.{newline, answerText, header}
+use Rattle.telemetry_lines.specs.Text.{newline, answerText, header, longestLine}
 use Rattle.telemetry_lines.specs.Line.{lineAnswer, lineText}
 use Rattle.telemetry_lines.specs.Stream.{mostKept, lineAfter, outputAfter, lastText, outputOf, outputInParts, joined}
 use Rattle.telemetry_lines.specs.Buffer.{Put}
@@ -55,15 +55,15 @@ output-other line b h = rw (ne-eqb b newline h)
 
 -- ---- The room that the output needs
 
-length-line : (line : List ℕ) → length (lineText line) ≤ 62
+length-line : (line : List ℕ) → length (lineText line) ≤ longestLine
 unfolding lineText
 length-line line = length-answer (lineAnswer line)
 
-pub length-output : (line input : List ℕ) → length (outputAfter line input) ≤ 62 * length input
+pub length-output : (line input : List ℕ) → length (outputAfter line input) ≤ longestLine * length input
 unfolding outputAfter
 length-output line [] = omega arith
 length-output line (b ∷ bs) =
-    cond-both (λ (text : List ℕ). length text ≤ 62 * length (b ∷ bs)) (eqb b newline)
+    cond-both (λ (text : List ℕ). length text ≤ longestLine * length (b ∷ bs)) (eqb b newline)
     (omega (arith, length-append (lineText line) (outputAfter [] bs), length-line line, length-output [] bs))
     (omega (arith, length-output (line ++ (b ∷ [])) bs))
 
@@ -81,7 +81,7 @@ answering-starts line input buffer h =
 
 module _ {line input before after held : List ℕ} {end i : ℕ} (a : Answering line input before after held end i) (h : i < length input) where
   -- There is room for a line of output more.
-  pub answering-room : 62 * length input ≤ length before → end + 62 ≤ length after
+  pub answering-room : longestLine * length input ≤ length before → end + longestLine ≤ length after
   answering-room room =
       let count = length-take-le i input (omega arith) in
       omega (arith, a .output .ends, put-length (a .output), length-output line (take i input))

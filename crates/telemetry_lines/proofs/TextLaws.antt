@@ -10,12 +10,13 @@ use lib.IntN.{ℤ, pos, negsuc, natAbs}
 use lib.ListN.{length, length-append}
 use lib.Signed.{ltZ}
 use borrow.Author.Tests.{lt-ltb, le-ltb, ltb-true}
+use Rattle.basics.specs.Ascii.{bytes}
 use Rattle.io.specs.Digits.{glyph, digits, Fewest}
 use Rattle.basics.proofs.Choice.{cond-both}
 use Rattle.telemetry.specs.declared.Reading.{Reading}
 use Rattle.telemetry.specs.declared.Decoded.{Decoded}
 use Rattle.refusal.specs.declared.Refusal.{Refusal}
-use Rattle.telemetry_lines.specs.Text.{minus, digitCharacter, decimalOf, decimalText, integerText, lineOf, readingText, positionText, firstSensorText, lastSensorText, refusalText, answerText}
+use Rattle.telemetry_lines.specs.Text.{minus, digitCharacter, decimalOf, decimalText, integerText, lineOf, readingText, positionText, firstSensorText, lastSensorText, refusalText, answerText, longestLine}
 
 -- ---- Lengths
 
@@ -35,8 +36,8 @@ unfolding integerText
 length-integer (pos n) = omega (arith, length-decimal n)
 length-integer (negsuc n) = omega (arith, length-decimal (suc n))
 
--- A line of output has at most 62 bytes.
-length-reading : (r : Reading) → length (readingText r) ≤ 62
+-- No line of output is longer than the longest.
+length-reading : (r : Reading) → length (readingText r) ≤ longestLine
 unfolding readingText lineOf
 length-reading r =
     simp length-append
@@ -49,11 +50,11 @@ length-reading r =
       length-decimal (r .gps),
     ))
 
-length-refusal : (f : Refusal) → length (refusalText f) ≤ 62
-unfolding refusalText lineOf
+length-refusal : (f : Refusal) → length (refusalText f) ≤ longestLine
+unfolding refusalText lineOf bytes
 length-refusal f = simp length-append (omega (arith, length-decimal (f .number), length-decimal (f .place)))
 
-pub length-answer : (a : Decoded) → length (answerText a) ≤ 62
+pub length-answer : (a : Decoded) → length (answerText a) ≤ longestLine
 unfolding answerText
 length-answer (Decoded.Telemetry r) = length-reading r
 length-answer (Decoded.Refused f) = length-refusal f

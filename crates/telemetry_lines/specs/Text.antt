@@ -4,6 +4,7 @@ use mathlib.Core.Bool.{cond}
 use mathlib.Core.List.{List, [], _∷_, _++_}
 use lib.Dec.{ltb}
 use lib.IntN.{ℤ, pos, negsuc}
+use Rattle.basics.specs.Ascii.{bytes}
 use Rattle.refusal.specs.declared.Refusal.{Refusal}
 use Rattle.telemetry.specs.declared.Reading.{Reading}
 use Rattle.telemetry.specs.declared.Decoded.{Decoded}
@@ -49,18 +50,8 @@ lineOf [] = newline ∷ []
 lineOf (w ∷ []) = w ++ (newline ∷ [])
 lineOf (w ∷ v ∷ ws) = w ++ (space ∷ lineOf (v ∷ ws))
 
--- CH GR ALT TEMP MV KT GPS
 unfoldable pub header : List ℕ
-header =
-    lineOf
-    ((67 ∷ 72 ∷ [])
-    ∷ (71 ∷ 82 ∷ [])
-    ∷ (65 ∷ 76 ∷ 84 ∷ [])
-    ∷ (84 ∷ 69 ∷ 77 ∷ 80 ∷ [])
-    ∷ (77 ∷ 86 ∷ [])
-    ∷ (75 ∷ 84 ∷ [])
-    ∷ (71 ∷ 80 ∷ 83 ∷ [])
-    ∷ [])
+header = bytes "CH GR ALT TEMP MV KT GPS" ++ (newline ∷ [])
 
 -- The channel's characters, the letters of the sub-square, metres, degrees, millivolts, knots and GPS.
 unfoldable pub readingText : Reading → List ℕ
@@ -91,7 +82,7 @@ lastSensorText r = space ∷ decimalText (r .speed) ++ (space ∷ decimalText (r
 unfoldable pub refusalText : Refusal → List ℕ
 refusalText f =
     lineOf
-    ((114 ∷ 101 ∷ 102 ∷ 117 ∷ 115 ∷ 101 ∷ 100 ∷ [])
+    (bytes "refused"
     ∷ decimalText (f .number)
     ∷ decimalText (f .place)
     ∷ [])
@@ -99,3 +90,8 @@ refusalText f =
 unfoldable pub answerText : Decoded → List ℕ
 answerText (Decoded.Telemetry r) = readingText r
 answerText (Decoded.Refused f) = refusalText f
+
+-- No line of output is longer: there are five numbers of at most ten digits, one with a sign before it, and five other characters, with a
+-- space before each number and the newline.
+abbrev pub longestLine : ℕ
+longestLine = 62

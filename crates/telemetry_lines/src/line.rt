@@ -53,6 +53,7 @@ fn is_digit(byte: u8) -> bool
     b'0' <= byte && byte <= b'9'
 }
 
+// A line has 14 bytes, two of them spaces and the last two digits.
 fn has_form(line: &[u8]) -> bool
     ensures { λ r. ⌜ r ≡ hasForm (now (line .entry)) ⌝ }
 {
@@ -73,6 +74,7 @@ fn power_in(line: &[u8]) -> u32
     (line[12] - b'0') as u32 * 10 + (line[13] - b'0') as u32
 }
 
+// The answer to a whole line.
 fn answer_of(line: &[u8]) -> Decoded
     ensures { λ r. ⌜ r ≡ lineAnswer (now (line .entry)) ⌝ }
 {
@@ -85,6 +87,7 @@ fn answer_of(line: &[u8]) -> Decoded
     telemetry::read(&line[..6], &line[7..11], power_in(line))
 }
 
+// The answer to the bytes that are held. A line of more than those has the same.
 pub(crate) fn answer_held(line: Line) -> Decoded
     requires { ⌜ line .length ≤ mostKept ⌝ }
     ensures { λ r. ⌜ r ≡ lineAnswer (heldBy line) ⌝ }

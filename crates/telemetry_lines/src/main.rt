@@ -18,6 +18,7 @@ mod stream;
 ghost use mathlib.Core.Path.{_≡_};
 ghost use Prim.Native.Nat.{_*_, _≤_};
 ghost use lib.ListN.{length, take};
+ghost use Rattle.telemetry_lines.specs.Text.{longestLine};
 ghost use Rattle.telemetry_lines.specs.Buffer.{Put, heldBy};
 ghost use Rattle.telemetry_lines.specs.Stream.{mostKept, lineAfter, outputAfter};
 use libc::STDIN_FILENO;
@@ -37,7 +38,7 @@ struct Part {
 // input that can't be read has ended.
 fn answer_part(line: Line, input: &mut [u8], out: &mut [u8]) -> Part
     requires { ⌜ line .length ≤ mostKept ⌝ }
-    requires { ⌜ 62 * length (now input) ≤ length (now out) ⌝ }
+    requires { ⌜ longestLine * length (now input) ≤ length (now out) ⌝ }
     ensures output { λ r. ⌜ Put (now (out .entry)) (now (out .exit)) 0 (r .end) (outputAfter (heldBy line) (take (r .count) (now (input .exit)))) ⌝ }
     ensures line { λ r. ⌜ heldBy (r .line) ≡ take mostKept (lineAfter (heldBy line) (take (r .count) (now (input .exit)))) ⌝ }
     ensures kept { λ r. ⌜ r .line .length ≤ mostKept ⌝ }
@@ -60,7 +61,7 @@ fn answer_part(line: Line, input: &mut [u8], out: &mut [u8]) -> Part
 // or where the output can't be written. A loop has to end, and nothing says that an input does: so
 // the reads are counted down, from a number that no run uses up.
 fn answer_lines(input: &mut [u8], out: &mut [u8]) -> Line
-    requires { ⌜ 62 * length (now input) ≤ length (now out) ⌝ }
+    requires { ⌜ longestLine * length (now input) ≤ length (now out) ⌝ }
     ensures { λ r. ⌜ r .length ≤ mostKept ⌝ }
 {
     let mut line = line::empty();

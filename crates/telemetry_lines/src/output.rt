@@ -5,7 +5,7 @@ ghost use mathlib.Core.List.{[], _∷_};
 ghost use Prim.Native.Nat.{_+_, _≤_};
 ghost use lib.IntN.{natAbs};
 ghost use lib.ListN.{length};
-ghost use Rattle.telemetry_lines.specs.Text.{space, decimalText, integerText, header, positionText, firstSensorText, lastSensorText, readingText, refusalText, answerText};
+ghost use Rattle.telemetry_lines.specs.Text.{space, decimalText, integerText, header, positionText, firstSensorText, lastSensorText, readingText, refusalText, answerText, longestLine};
 ghost use Rattle.telemetry_lines.specs.Buffer.{Put};
 use refusal::Refusal;
 use telemetry::Decoded;
@@ -122,7 +122,7 @@ fn put_last_sensors(reading: Reading, out: &mut [u8], at: usize) -> usize
 }
 
 fn put_reading(reading: Reading, out: &mut [u8], at: usize) -> usize
-    requires { ⌜ at + 62 ≤ length (now out) ⌝ }
+    requires { ⌜ at + longestLine ≤ length (now out) ⌝ }
     ensures { λ r. ⌜ Put (now (out .entry)) (now (out .exit)) at r (readingText reading) ⌝ }
 {
     let first = put_position(reading, out, at);
@@ -131,7 +131,7 @@ fn put_reading(reading: Reading, out: &mut [u8], at: usize) -> usize
 }
 
 fn put_refusal(refusal: Refusal, out: &mut [u8], at: usize) -> usize
-    requires { ⌜ at + 62 ≤ length (now out) ⌝ }
+    requires { ⌜ at + longestLine ≤ length (now out) ⌝ }
     ensures { λ r. ⌜ Put (now (out .entry)) (now (out .exit)) at r (refusalText refusal) ⌝ }
 {
     let number = put(b"refused", out, at);
@@ -141,7 +141,7 @@ fn put_refusal(refusal: Refusal, out: &mut [u8], at: usize) -> usize
 }
 
 pub(crate) fn put_answer(answer: Decoded, out: &mut [u8], at: usize) -> usize
-    requires { ⌜ at + 62 ≤ length (now out) ⌝ }
+    requires { ⌜ at + longestLine ≤ length (now out) ⌝ }
     ensures { λ r. ⌜ Put (now (out .entry)) (now (out .exit)) at r (answerText answer) ⌝ }
 {
     match answer {

@@ -2,6 +2,7 @@
 ghost use mathlib.Core.Path.{_≡_};
 ghost use Prim.Native.Nat.{_*_, _≤_};
 ghost use lib.ListN.{length, take};
+ghost use Rattle.telemetry_lines.specs.Text.{longestLine};
 ghost use Rattle.telemetry_lines.specs.Buffer.{Put, heldBy};
 ghost use Rattle.telemetry_lines.specs.Stream.{mostKept, lineAfter, outputAfter, lastText};
 use super::line;
@@ -17,7 +18,7 @@ pub(crate) struct Answered {
 // Puts the output for a part of the input to the start of `out`, where the line has begun.
 pub(crate) fn answer(line: Line, input: &[u8], out: &mut [u8]) -> Answered
     requires { ⌜ line .length ≤ mostKept ⌝ }
-    requires { ⌜ 62 * length (now input) ≤ length (now out) ⌝ }
+    requires { ⌜ longestLine * length (now input) ≤ length (now out) ⌝ }
     ensures output { λ r. ⌜ Put (now (out .entry)) (now (out .exit)) 0 (r .end) (outputAfter (heldBy line) (now (input .entry))) ⌝ }
     ensures line { λ r. ⌜ heldBy (r .line) ≡ take mostKept (lineAfter (heldBy line) (now (input .entry))) ⌝ }
     ensures kept { λ r. ⌜ r .line .length ≤ mostKept ⌝ }
@@ -41,7 +42,7 @@ pub(crate) fn answer(line: Line, input: &[u8], out: &mut [u8]) -> Answered
 // Puts the output for the last line to the start of `out`, where no newline has ended it.
 pub(crate) fn answer_last(line: Line, out: &mut [u8]) -> usize
     requires { ⌜ line .length ≤ mostKept ⌝ }
-    requires { ⌜ 62 ≤ length (now out) ⌝ }
+    requires { ⌜ longestLine ≤ length (now out) ⌝ }
     ensures { λ r. ⌜ Put (now (out .entry)) (now (out .exit)) 0 r (lastText (heldBy line)) ⌝ }
 {
     if line.length == 0 {

@@ -2,6 +2,7 @@
 use mathlib.Core.Path.{_≡_, refl}
 use mathlib.Core.Bool.{Bool, true}
 use mathlib.Core.List.{List, [], _∷_}
+use Rattle.basics.specs.Ascii.{bytes}
 use Rattle.basics.specs.Lists.{firstFailing, sameList}
 use Rattle.basics.proofs.Choice.{both-true}
 use Rattle.basics.proofs.Tables.{every}
@@ -18,7 +19,7 @@ use Rattle.telemetry.specs.Ranges.{temperatureInRange, inRanges, firstOutOfRang
 use Rattle.telemetry.specs.Codes.{altitudeCode, temperatureCode, voltageCode, speedCode, millivolts}
 use Rattle.telemetry.specs.Numbers.{positionRadices, positionDigits, positionNumber, sensorRadices, sensorDigits, sensorNumber}
 use Rattle.telemetry.specs.Answer.{measuredAnswer, callsignFrom, locatorFrom, numbersAnswer, carriedAnswer, decoded, decodedNumbers}
-use Rattle.worked_examples.specs.BenchSheet.{Row, bytes, number, text, refused, measuredAt, writeRefused, readRefused, benchSheet, Agrees}
+use Rattle.worked_examples.specs.BenchSheet.{Row, number, text, refused, measuredAt, writeRefused, readRefused, benchSheet, Agrees}
 
 abbrev same : Row → Bool
 same r = sameList (r .given) (r .stated)

@@ -1,10 +1,10 @@
 -- The worked examples of 01's bench sheet that are marked P, as a table: what the definitions give, and what the sheet says.
 use Prim.Native.Nat.{ℕ}
-use Prim.Native.Char.{code}
-use Prim.Native.String.{String, [] as empty, _∷_ as _∷ˢ_}
+use Prim.Native.String.{String}
 use mathlib.Core.Path.{_≡_}
 use mathlib.Core.List.{List, [], _∷_}
 use lib.IntN.{pos, negℤ}
+use Rattle.basics.specs.Ascii.{bytes}
 use Rattle.message.specs.Word.{callsignNumber, locatorNumber, lowerNumber}
 use Rattle.message.specs.Answer.{givenNumbers}
 use Rattle.telemetry.specs.Codes.{altitudeCode, voltageCode, millivolts}
@@ -12,11 +12,6 @@ use Rattle.telemetry.specs.Numbers.{positionNumber, sensorNumber}
 use Rattle.u4b.specs.Characters.{callsignWith, locatorWith, powerWith, lowerOf}
 use Rattle.telemetry.specs.Answer.{measuredAnswer, callsignFrom, locatorFrom, decoded, decodedNumbers}
 use Rattle.telemetry.specs.declared.Measured.{Measured}
-
--- The bytes of a text in ASCII.
-unfoldable pub bytes : String → List ℕ
-bytes empty = []
-bytes (c ∷ˢ text) = code c ∷ bytes text
 
 -- A row: the numbers that the definitions give, and those that the sheet states.
 pub record Row : Type 0 where

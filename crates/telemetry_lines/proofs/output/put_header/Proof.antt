@@ -1,7 +1,8 @@
 -- `telemetry_lines::output::put_header` meets its contract: the text is the definition's.
 -- Assumes nothing.
 use borrow.Author.Needs.{needs}
-use Rattle.telemetry_lines.specs.Text.{lineOf, header}
+use Rattle.basics.specs.Ascii.{bytes}
+use Rattle.telemetry_lines.specs.Text.{header}
 use Rattle.telemetry_lines.proofs.output.put_header.Statement.{statement}
 use Rattle.telemetry_lines.proofs.output.put_header.Tie as tie
 
@@ -15,7 +16,7 @@ same-length : tie.Need-same-length
 same-length c = search needs
 
 returns : tie.Need-returns
-unfolding header lineOf
+unfolding header bytes
 returns c = c .before .before .put .ensures
 
 pub put-header-spec : {M : Type 1} → statement M

@@ -1,10 +1,8 @@
 -- `telemetry_lines::output::put_last_sensors` meets its contract: one part is put after the other.
 -- Assumes nothing.
 use native.Mathlib.Omega.{arith}
-use mathlib.Core.List.{_∷_}
-use lib.ListN.{length-append}
 use borrow.Author.Needs.{needs}
-use Rattle.telemetry_lines.specs.Text.{space, decimalText, lastSensorText}
+use Rattle.telemetry_lines.specs.Text.{lastSensorText}
 use Rattle.telemetry_lines.proofs.PutLaws.{put-then, put-length}
 use Rattle.telemetry_lines.proofs.TextLaws.{length-decimal}
 use Rattle.telemetry_lines.proofs.output.put_last_sensors.Statement.{statement}
@@ -24,12 +22,12 @@ put-byte-requires c κs =
     let gps = c .before .before .before in
     let speed = gps .before .before .before .before in
     let r = speed .before .before .before .args .reading in
-    let both = put-then (speed .put-field .ensures) (gps .put-field2 .ensures) in
     omega (
       arith,
-      both .ends,
-      put-length both,
-      length-append (space ∷ decimalText (r .speed)) (space ∷ decimalText (r .gps)),
+      speed .put-field .ensures .ends,
+      put-length (speed .put-field .ensures),
+      gps .put-field2 .ensures .ends,
+      put-length (gps .put-field2 .ensures),
       length-decimal (r .speed),
       length-decimal (r .gps),
     )

@@ -20,7 +20,15 @@ put-last-sensors-requires c κs =
     let q = c .before .before .before in
     let p = q .before .before .before .before in
     let r = p .before .before .before .args .reading in
-    omega (arith, q .put-first-sensors .ensures .ends, put-length (q .put-first-sensors .ensures), p .put-position .ensures .ends, put-length (p .put-position .ensures), length-position r, length-first-sensors r)
+    omega (
+      arith,
+      p .put-position .ensures .ends,
+      put-length (p .put-position .ensures),
+      q .put-first-sensors .ensures .ends,
+      put-length (q .put-first-sensors .ensures),
+      length-position r,
+      length-first-sensors r,
+    )
 
 same-length : tie.Need-same-length
 same-length c = search needs

@@ -2,6 +2,7 @@
 -- Assumes nothing.
 use native.Mathlib.Omega.{arith}
 use borrow.Author.Needs.{needs}
+use Rattle.basics.specs.Ascii.{bytes}
 use Rattle.telemetry_lines.specs.Text.{lineOf, refusalText}
 use Rattle.telemetry_lines.proofs.PutLaws.{put-then, put-length}
 use Rattle.telemetry_lines.proofs.TextLaws.{length-decimal}
@@ -27,17 +28,27 @@ put-field-requires-2 c κs =
 
 put-byte-requires : tie.Need-put-byte-requires
 put-byte-requires c κs =
-    let q = c .before .before .before in
-    let p = q .before .before .before .before in
-    let start = p .before .before .before .before in
+    let place = c .before .before .before in
+    let number = place .before .before .before .before in
+    let start = number .before .before .before .before in
     let f = start .before .before .before .before .args .refusal in
-    omega (arith, q .put-field2 .ensures .ends, put-length (q .put-field2 .ensures), p .put-field .ensures .ends, put-length (p .put-field .ensures), start .put .ensures .ends, put-length (start .put .ensures), length-decimal (f .number), length-decimal (f .place))
+    omega (
+      arith,
+      start .put .ensures .ends,
+      put-length (start .put .ensures),
+      number .put-field .ensures .ends,
+      put-length (number .put-field .ensures),
+      place .put-field2 .ensures .ends,
+      put-length (place .put-field2 .ensures),
+      length-decimal (f .number),
+      length-decimal (f .place),
+    )
 
 same-length : tie.Need-same-length
 same-length c = search needs
 
 returns : tie.Need-returns
-unfolding refusalText lineOf
+unfolding refusalText lineOf bytes
 returns c =
     let end = c .before .before in
     let place = end .before .before .before .before in
