@@ -8,11 +8,12 @@ use Rattle.power.specs.Powers.{powers, indexIn, powerIndex, legalPower}
 use Rattle.message.specs.Character.{value, callsignSets, locatorSets, setAt, legalAt, digitAt, overPlaces, digitsFrom}
 use Rattle.message.specs.Word.{callsignRadices, callsignNumber, locatorNumberFrom, locatorNumber, lowerNumber, wordFrom, wordOf}
 use Rattle.message.specs.Answer.{rightLengths, packed}
-use Rattle.telemetry.specs.Ranges.{isFirst}
+use Rattle.u4b.specs.Channel.{isFirstCharacter}
+use Rattle.u4b.specs.Characters.{upperRadices, upperOf, lowerRadices, lowerOf, telemetryAt, firstNotTelemetry}
+use Rattle.u4b.specs.Answer.{numbersOf, messageCarried, ifPacked, carried}
 use Rattle.telemetry.specs.Codes.{metres, degrees, millivolts, knots}
 use Rattle.telemetry.specs.Numbers.{positionRadices, sensorRadices, readingFrom, readingOf}
-use Rattle.telemetry.specs.Characters.{positionPlaces, positionOf, sensorPlaces, sensorsOf, basicAt, firstForeign}
-use Rattle.telemetry.specs.Answer.{numbersAnswer, messageAnswer, ifPacked, decoded}
+use Rattle.telemetry.specs.Answer.{numbersAnswer, carriedAnswer, decoded}
 use Rattle.telemetry_lines.specs.Text.{digitCharacter, decimalOf, decimalText, integerText, lineOf, header, readingText, refusalText, answerText}
 use Rattle.telemetry_lines.specs.Line.{hasForm, callsignIn, locatorIn, powerIn, lineAnswer, lineText}
 use Rattle.telemetry_lines.specs.Stream.{lineAfter, outputAfter, lastText, outputOf}
@@ -21,8 +22,8 @@ use Rattle.telemetry_lines.specs.Example.{linesOf, exampleInput, example
 pub example-shown : outputOf exampleInput ≡ exampleOutput
 unfolding bytes firstFailing sameList count numberOf numberFrom digitsOf powers indexIn powerIndex legalPower value callsignSets
     locatorSets setAt legalAt digitAt overPlaces digitsFrom callsignRadices callsignNumber locatorNumberFrom locatorNumber lowerNumber
-    wordFrom wordOf rightLengths packed isFirst metres degrees millivolts knots positionRadices sensorRadices readingFrom readingOf
-    positionPlaces positionOf sensorPlaces sensorsOf basicAt firstForeign numbersAnswer messageAnswer ifPacked decoded digitCharacter decimalOf
+    wordFrom wordOf rightLengths packed isFirstCharacter metres degrees millivolts knots positionRadices sensorRadices readingFrom readingOf
+    upperRadices upperOf lowerRadices lowerOf telemetryAt firstNotTelemetry numbersOf messageCarried ifPacked carried numbersAnswer carriedAnswer decoded digitCharacter decimalOf
     decimalText integerText lineOf header readingText refusalText answerText hasForm callsignIn locatorIn powerIn lineAnswer lineText
     lineAfter outputAfter lastText outputOf linesOf exampleInput exampleOutput
 example-shown = sameList-equal (outputOf exampleInput) exampleOutput refl
