@@ -90,7 +90,7 @@ fn refused_word(refusal: Refusal) -> WsprWord
     }
 }
 
-// The result of reading a message.
+// The result with a message's power.
 fn message_result(answer: Given) -> WsprMessage
     ensures { λ r. ⌜ r ≡ messageResult (givenNumbers answer) ⌝ }
 {
