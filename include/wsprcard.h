@@ -40,9 +40,11 @@
  * A frame is one byte a symbol, each 0 to 3, in the order in which they are sent.
  *
  * Telemetry comes as a message. The callsign's places 0 and 2, its first and third character, name
- * the channel. A is the number in places 1, 3, 4 and 5, with radices 36, 26, 26, 26 and A = 0 at the
- * last three: sub-square and altitude. B is the number in places 6 to 9 and the power's index, with
- * radices 18, 18, 10, 10, 19: temperature, voltage, speed and GPS.
+ * the channel. The number A, of sub-square and altitude, has its digits in places 1, 3, 4 and 5, with
+ * radices 36, 26, 26, 26. The number B, of temperature, voltage, speed and GPS, has its digits in
+ * places 6 to 9 and in the power's index, its place from 0 in the list above, with radices 18, 18, 10,
+ * 10, 19. The highest digit comes first. At place 1 the digits count 0 to 9 and the letters 10 to 35;
+ * at the other places letters and digits count from 0.
  */
 #ifndef WSPRCARD_H
 #define WSPRCARD_H
@@ -113,7 +115,8 @@ wspr_message wspr_read_message(const uint8_t *frame, size_t frame_len, uint8_t *
  *   speed        0 to 839 tenths of a knot, in steps of 20
  *   gps          0 or 1
  *
- * Refusals 1, 14, in that order: nothing is clamped. */
+ * Refusals 1, 14, in that order: nothing is clamped. What u4b_read gives of the message is the low end of each step;
+ * for temperature it is the whole degrees, so that -9 to 9 tenths all give 0. */
 wspr_message u4b_write(uint8_t first, uint8_t third, uint8_t grid5, uint8_t grid6, uint32_t altitude,
                        int32_t temperature, uint32_t voltage, uint32_t speed, uint32_t gps, uint8_t *callsign,
                        size_t callsign_len, uint8_t *locator, size_t locator_len);
