@@ -1,5 +1,5 @@
 -- The cases of the definitions of the answers, each by what holds there, and what an answer that is no refusal says of its input.
-use mathlib.Core.Path.{_≡_, refl, _∙_}
+use mathlib.Core.Path.{_≡_, refl, sym, _∙_}
 use Prim.Native.Nat.{ℕ, _-_, _^_, _≤_, _<_}
 use native.Mathlib.Omega.{arith}
 use mathlib.Core.Logic.{_↔_}
@@ -14,14 +14,15 @@ use Rattle.refusal.specs.Refusals.{refusal, wrongLength, badCharacter, badPower
 use Rattle.message.specs.Character.{firstBad, legalAt}
 use Rattle.power.specs.Powers.{legalPower}
 use Rattle.message.specs.Word.{wordOf, callsignPart, locatorPart, powerPart}
-use Rattle.message.specs.Answer.{rightLengths, packed, wordAnswer, unpacked, packedNumbers, givenNumbers}
+use Rattle.message.specs.Answer.{rightLengths, checked, wordIf, packed, wordAnswer, unpacked, packedNumbers, givenNumbers}
 use Rattle.message.specs.RoundTrip.{IsRefused}
+use Rattle.message.specs.declared.Checked.{Checked}
 use Rattle.message.specs.declared.Packed.{Packed}
 use Rattle.message.specs.declared.Given.{Given}
 use Rattle.message.proofs.CharacterLaws.{AllLegal}
 use Rattle.basics.proofs.ListLaws.{all-pass, firstFailing-first, firstFailing-append, none-fails}
 
--- ---- The cases of packing a message
+-- ---- The cases of checking a message
 
 pub right-lengths : (callsign locator : List ℕ) → length callsign ≡ 6 → length locator ≡ 4 → rightLengths (length callsign) (length locator) ≡ true
 unfolding rightLengths
@@ -42,24 +43,34 @@ pub record Legal (callsign locator : List ℕ) (power : ℕ) : Type 0 where
   pub power-legal : legalPower power ≡ true
 
 module _ (callsign locator : List ℕ) (power : ℕ) where
-  pub packed-length : rightLengths (length callsign) (length locator) ≡ false → packed callsign locator power ≡ Packed.Refused (refusal wrongLength 0)
-  unfolding packed
-  packed-length e = rw e
+  pub checked-length : rightLengths (length callsign) (length locator) ≡ false → checked callsign locator power ≡ Checked.Refused (refusal wrongLength 0)
+  unfolding checked
+  checked-length e = rw e
 
   module _ (right : rightLengths (length callsign) (length locator) ≡ true) where
-    pub packed-character : (bad : ℕ) → firstBad 0 (callsign ++ locator) ≡ bad → bad < 10
-        → packed callsign locator power ≡ Packed.Refused (refusal badCharacter bad)
-    unfolding packed
-    packed-character bad e h = rw (right, e, lt-ltb bad 10 h)
+    pub checked-character : (bad : ℕ) → firstBad 0 (callsign ++ locator) ≡ bad → bad < 10
+        → checked callsign locator power ≡ Checked.Refused (refusal badCharacter bad)
+    unfolding checked
+    checked-character bad e h = rw (right, e, lt-ltb bad 10 h)
 
     module _ (good : 10 ≤ firstBad 0 (callsign ++ locator)) where
-      pub packed-power : legalPower power ≡ false → packed callsign locator power ≡ Packed.Refused (refusal badPower 0)
-      unfolding packed
-      packed-power e = rw (right, le-ltb _ 10 good, e)
+      pub checked-power : legalPower power ≡ false → checked callsign locator power ≡ Checked.Refused (refusal badPower 0)
+      unfolding checked
+      checked-power e = rw (right, le-ltb _ 10 good, e)
 
-      pub packed-word : legalPower power ≡ true → packed callsign locator power ≡ Packed.Word (wordOf callsign locator power)
-      unfolding packed
-      packed-word e = rw (right, le-ltb _ 10 good, e)
+      pub checked-legal : legalPower power ≡ true → checked callsign locator power ≡ Checked.Legal
+      unfolding checked
+      checked-legal e = rw (right, le-ltb _ 10 good, e)
+
+  -- ---- The cases of packing it
+
+  pub packed-refused : (f : Refusal) → checked callsign locator power ≡ Checked.Refused f → packed callsign locator power ≡ Packed.Refused f
+  unfolding packed wordIf
+  packed-refused f e = rw e
+
+  pub packed-word : checked callsign locator power ≡ Checked.Legal → packed callsign locator power ≡ Packed.Word (wordOf callsign locator power)
+  unfolding packed wordIf
+  packed-word e = rw e
 
 -- The characters of a message that is packed, part by part.
 legal-parts : (callsign locator : List ℕ) → length callsign ≡ 6 → length locator ≡ 4 → 10 ≤ firstBad 0 (callsign ++ locator)
@@ -80,18 +91,30 @@ legal-message callsign locator power right good legal =
     let parts = legal-parts callsign locator (lengths .0) (lengths .1) good in
     record { six = lengths .0; four = lengths .1; callsign-legal = parts .0; locator-legal = parts .1; power-legal = legal }
 
+refused-not-legal : (f : Refusal) → Checked.Refused f ≡ Checked.Legal → ⊥
+refused-not-legal f e = let z : _≡_ {A = ℕ} 0 1 = cc in omega arith
+
+pub legal-of-checked : (callsign locator : List ℕ) (power : ℕ) → checked callsign locator power ≡ Checked.Legal → Legal callsign locator power
+unfolding checked
+legal-of-checked callsign locator power e =
+    let lengths = cond-passed (not (rightLengths (length callsign) (length locator))) e (refused-not-legal _) in
+    let characters = cond-passed (ltb (firstBad 0 (callsign ++ locator)) 10) (lengths .1) (refused-not-legal _) in
+    let its-power = cond-passed (not (legalPower power)) (characters .1) (refused-not-legal _) in
+    legal-message callsign locator power (not-false _ (lengths .0)) (ltb-false _ _ (characters .0)) (not-false _ (its-power .0))
+
 -- A refusal is no word.
 pub refused-no-word : (f : Refusal) (word : ℕ) → Packed.Refused f ≡ Packed.Word word → ⊥
 refused-no-word f word e = let z : _≡_ {A = ℕ} 0 1 = cc in omega arith
 
 pub legal-of-packed : (callsign locator : List ℕ) (power word : ℕ) → packed callsign locator power ≡ Packed.Word word
     → Legal callsign locator power × (word ≡ wordOf callsign locator power)
-unfolding packed
-legal-of-packed callsign locator power word e =
-    let lengths = cond-passed (not (rightLengths (length callsign) (length locator))) e (refused-no-word _ word) in
-    let characters = cond-passed (ltb (firstBad 0 (callsign ++ locator)) 10) (lengths .1) (refused-no-word _ word) in
-    let its-power = cond-passed (not (legalPower power)) (characters .1) (refused-no-word _ word) in
-    (legal-message callsign locator power (not-false _ (lengths .0)) (ltb-false _ _ (characters .0)) (not-false _ (its-power .0)), cc)
+legal-of-packed callsign locator power word e = go (checked callsign locator power) refl
+  where
+    go : (answer : Checked) → checked callsign locator power ≡ answer → Legal callsign locator power × (word ≡ wordOf callsign locator power)
+    go Checked.Legal c =
+        let made = packed-word callsign locator power c in
+        (legal-of-checked callsign locator power c, cc)
+    go (Checked.Refused f) c = absurd (refused-no-word f word (sym (packed-refused callsign locator power f c) ∙ e))
 
 -- ---- The cases of reading a word
 
@@ -169,15 +192,28 @@ module _ (callsign locator : List ℕ) (word : ℕ) where
 
 -- ---- The refusal number 0 is that of the answers that are no refusal
 
+-- No refusal of a check has the number 0.
+Nonzero : Checked → Type 0
+Nonzero answer = (f : Refusal) → answer ≡ Checked.Refused f → f .number ≡ 0 → ⊥
+
+pub checked-nonzero : (callsign locator : List ℕ) (power : ℕ) (f : Refusal) → checked callsign locator power ≡ Checked.Refused f → f .number ≡ 0 → ⊥
+unfolding Nonzero checked
+checked-nonzero callsign locator power =
+    let bad = firstBad 0 (callsign ++ locator) in
+    cond-both Nonzero (not (rightLengths (length callsign) (length locator))) (λ f e z. let n : wrongLength ≡ f .number = cc in omega arith)
+    (cond-both Nonzero (ltb bad 10) (λ f e z. let n : badCharacter ≡ f .number = cc in omega arith)
+    (cond-both Nonzero (not (legalPower power)) (λ f e z. let n : badPower ≡ f .number = cc in omega arith) (λ f e z. refused-not-legal f (sym e))))
+
+word-answered : (answer : Checked) (word : ℕ) → Nonzero answer → packedNumbers (wordIf answer word) .number ≡ 0
+    → wordIf answer word ≡ Packed.Word (packedNumbers (wordIf answer word) .word)
+unfolding Nonzero wordIf packedNumbers
+word-answered Checked.Legal word h z = refl
+word-answered (Checked.Refused f) word h z = absurd (h f refl z)
+
 pub packed-answered : (callsign locator : List ℕ) (power : ℕ) → packedNumbers (packed callsign locator power) .number ≡ 0
     → packed callsign locator power ≡ Packed.Word (packedNumbers (packed callsign locator power) .word)
-unfolding packed packedNumbers
-packed-answered callsign locator power =
-    let bad = firstBad 0 (callsign ++ locator) in
-    let P : Packed → Type 0 = λ a. packedNumbers a .number ≡ 0 → a ≡ Packed.Word (packedNumbers a .word) in
-    cond-both P (not (rightLengths (length callsign) (length locator))) (λ z. absurd (omega arith))
-    (cond-both P (ltb bad 10) (λ z. absurd (omega arith))
-    (cond-both P (not (legalPower power)) (λ z. absurd (omega arith)) (λ z. refl)))
+unfolding Nonzero packed
+packed-answered callsign locator power = word-answered (checked callsign locator power) _ (checked-nonzero callsign locator power)
 
 pub unpacked-answered : (callsign locator : List ℕ) (word : ℕ) → givenNumbers (unpacked callsign locator word) .number ≡ 0
     → unpacked callsign locator word ≡ Given.Power (givenNumbers (unpacked callsign locator word) .power)

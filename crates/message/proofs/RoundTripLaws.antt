@@ -14,7 +14,7 @@ use Rattle.message.specs.declared.Packed.{Packed}
 use Rattle.message.specs.declared.Given.{Given}
 use Rattle.power.proofs.Laws.{legal-power-end}
 use Rattle.message.proofs.WordLaws.{callsignNumber-below, callsignWithNumber-callsignNumber, callsignWithNumber-length, callsignWithNumber-legal, callsignNumber-callsignWithNumber, locatorNumber-below, locatorWithNumber-locatorNumber, locatorWithNumber-length, locatorWithNumber-legal, locatorNumber-locatorWithNumber, callsignPart-word, locatorPart-word, powerPart-word, word-below, word-of-parts}
-use Rattle.message.proofs.AnswerLaws.{right-lengths, packed-word, legal-whole, legal-of-packed, wordAnswer-power, readable, unpacked-read}
+use Rattle.message.proofs.AnswerLaws.{right-lengths, checked-legal, packed-word, legal-whole, legal-of-packed, wordAnswer-power, readable, unpacked-read}
 
 -- ---- The round trips
 
@@ -50,9 +50,10 @@ pack-unpack word power e =
     let n = callsignPart word in
     let m1 = locatorPart word in
     packed-word (callsignWithNumber n) (locatorWithNumber m1) power
+    (checked-legal (callsignWithNumber n) (locatorWithNumber m1) power
     (right-lengths (callsignWithNumber n) (locatorWithNumber m1) (callsignWithNumber-length n) (locatorWithNumber-length m1))
     (legal-whole _ _ (callsignWithNumber-length n) (locatorWithNumber-length m1) (callsignWithNumber-legal n) (locatorWithNumber-legal m1))
-    (r .power-legal)
+    (r .power-legal))
     ∙ ap Packed.Word (rw (callsignNumber-callsignWithNumber n (r .callsign), locatorNumber-locatorWithNumber m1 (r .locator), r .is-power) (word-of-parts word (r .bits)))
 
 -- The reader refuses exactly the words that the writer never makes.

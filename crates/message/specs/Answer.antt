@@ -9,6 +9,7 @@ use Rattle.refusal.specs.Refusals.{refusal, wrongLength, badCharacter, badPower
 use Rattle.message.specs.Character.{firstBad}
 use Rattle.power.specs.Powers.{legalPower}
 use Rattle.message.specs.Word.{wordOf, callsignPart, locatorPart, powerPart, callsignOf, locatorOf}
+use Rattle.message.specs.declared.Checked.{Checked}
 use Rattle.message.specs.declared.Packed.{Packed}
 use Rattle.message.specs.declared.Given.{Given}
 
@@ -16,16 +17,25 @@ use Rattle.message.specs.declared.Given.{Given}
 unfoldable pub rightLengths : ℕ → ℕ → Bool
 rightLengths callsign locator = eqb callsign 6 && eqb locator 4
 
--- ---- From a message to its word
+-- ---- A message of legal characters and power
 
 -- "If several apply, the order is: triple 1, 2, 3"; "Within one number, the lowest place."
-unfoldable pub packed : List ℕ → List ℕ → ℕ → Packed
-packed callsign locator power =
+unfoldable pub checked : List ℕ → List ℕ → ℕ → Checked
+checked callsign locator power =
     let bad = firstBad 0 (callsign ++ locator) in
-    cond (not (rightLengths (length callsign) (length locator))) (Packed.Refused (refusal wrongLength 0))
-    (cond (ltb bad 10) (Packed.Refused (refusal badCharacter bad))
-    (cond (not (legalPower power)) (Packed.Refused (refusal badPower 0))
-    (Packed.Word (wordOf callsign locator power))))
+    cond (not (rightLengths (length callsign) (length locator))) (Checked.Refused (refusal wrongLength 0))
+    (cond (ltb bad 10) (Checked.Refused (refusal badCharacter bad))
+    (cond (not (legalPower power)) (Checked.Refused (refusal badPower 0)) Checked.Legal))
+
+-- ---- From a message to its word
+
+-- The word where the message is legal, else its refusal.
+unfoldable pub wordIf : Checked → ℕ → Packed
+wordIf Checked.Legal word = Packed.Word word
+wordIf (Checked.Refused f) word = Packed.Refused f
+
+unfoldable pub packed : List ℕ → List ℕ → ℕ → Packed
+packed callsign locator power = wordIf (checked callsign locator power) (wordOf callsign locator power)
 
 -- ---- From a word to its message: "word 1 (if a buffer is lent), 4, 5, 6"
 

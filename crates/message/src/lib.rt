@@ -3,12 +3,18 @@ pub mod character;
 mod word;
 
 ghost use mathlib.Core.Path.{_≡_};
-ghost use Rattle.message.specs.Answer.{rightLengths, packed, unpacked, callsignAfter, locatorAfter};
+ghost use Rattle.message.specs.Answer.{rightLengths, checked, packed, unpacked, callsignAfter, locatorAfter};
 ghost use Rattle.message.specs.RoundTrip.{ReadsBack, PacksBack, RefusesExactly};
 use refusal::BAD_CHARACTER;
 use refusal::BAD_POWER;
 use refusal::Refusal;
 use refusal::WRONG_LENGTH;
+
+// The answer of `check`.
+pub enum Checked {
+    Legal,
+    Refused(Refusal),
+}
 
 // The answer of `pack`.
 pub enum Packed {
@@ -30,29 +36,40 @@ pub fn right_lengths(callsign: usize, locator: usize) -> bool
     callsign == 6 && locator == 4
 }
 
-// The word of a message.
-pub fn pack(callsign: &[u8], locator: &[u8], power: u32) -> Packed
-    ensures answer { λ r. ⌜ r ≡ packed (now (callsign .entry)) (now (locator .entry)) power ⌝ }
-    ensures reads_back { λ r. ⌜ ReadsBack r (now (callsign .entry)) (now (locator .entry)) power ⌝ }
+// Whether a message is legal: its lengths, its characters and its power.
+pub fn check(callsign: &[u8], locator: &[u8], power: u32) -> Checked
+    ensures { λ r. ⌜ r ≡ checked (now (callsign .entry)) (now (locator .entry)) power ⌝ }
 {
     if !right_lengths(callsign.len(), locator.len()) {
-        return Packed::Refused(Refusal {
+        return Checked::Refused(Refusal {
             number: WRONG_LENGTH,
             place: 0,
         });
     }
     let bad = character::first_bad_of(callsign, locator);
     if bad < 10 {
-        return Packed::Refused(Refusal {
+        return Checked::Refused(Refusal {
             number: BAD_CHARACTER,
             place: bad as u32,
         });
     }
     if !power::is_legal(power) {
-        return Packed::Refused(Refusal {
+        return Checked::Refused(Refusal {
             number: BAD_POWER,
             place: 0,
         });
+    }
+    Checked::Legal
+}
+
+// The word of a message.
+pub fn pack(callsign: &[u8], locator: &[u8], power: u32) -> Packed
+    ensures answer { λ r. ⌜ r ≡ packed (now (callsign .entry)) (now (locator .entry)) power ⌝ }
+    ensures reads_back { λ r. ⌜ ReadsBack r (now (callsign .entry)) (now (locator .entry)) power ⌝ }
+{
+    let checked = check(callsign, locator, power);
+    if let Checked::Refused(refusal) = checked {
+        return Packed::Refused(refusal);
     }
     let n = word::callsign_number(callsign);
     let m1 = word::locator_number(locator);

@@ -6,11 +6,10 @@ use Rattle.basics.proofs.ListLaws.{sameList-equal}
 use Rattle.radix.specs.Numeral.{count, numberOf, numberFrom, digitsOf}
 use Rattle.power.specs.Powers.{powers, indexIn, powerIndex, legalPower}
 use Rattle.message.specs.Character.{value, callsignSets, locatorSets, setAt, legalAt, digitAt, overPlaces, digitsFrom}
-use Rattle.message.specs.Word.{callsignRadices, callsignNumber, locatorNumberFrom, locatorNumber, lowerNumber, wordFrom, wordOf}
-use Rattle.message.specs.Answer.{rightLengths, packed}
+use Rattle.message.specs.Answer.{rightLengths, checked}
 use Rattle.u4b.specs.Channel.{isFirstCharacter}
 use Rattle.u4b.specs.Characters.{upperRadices, upperOf, lowerRadices, lowerOf, telemetryAt, firstNotTelemetry}
-use Rattle.u4b.specs.Answer.{numbersOf, messageCarried, ifPacked, carried}
+use Rattle.u4b.specs.Answer.{numbersOf, messageCarried, ifLegal, carried}
 use Rattle.telemetry.specs.Codes.{metres, degrees, millivolts, knots}
 use Rattle.telemetry.specs.Numbers.{positionRadices, sensorRadices, readingFrom, readingOf}
 use Rattle.telemetry.specs.Answer.{numbersAnswer, carriedAnswer, decoded}
@@ -21,9 +20,9 @@ use Rattle.telemetry_lines.specs.Example.{linesOf, exampleInput, example
 
 pub example-shown : outputOf exampleInput ≡ exampleOutput
 unfolding bytes firstFailing sameList count numberOf numberFrom digitsOf powers indexIn powerIndex legalPower value callsignSets
-    locatorSets setAt legalAt digitAt overPlaces digitsFrom callsignRadices callsignNumber locatorNumberFrom locatorNumber lowerNumber
-    wordFrom wordOf rightLengths packed isFirstCharacter metres degrees millivolts knots positionRadices sensorRadices readingFrom readingOf
-    upperRadices upperOf lowerRadices lowerOf telemetryAt firstNotTelemetry numbersOf messageCarried ifPacked carried numbersAnswer carriedAnswer decoded digitCharacter decimalOf
+    locatorSets setAt legalAt digitAt overPlaces digitsFrom
+    rightLengths checked isFirstCharacter metres degrees millivolts knots positionRadices sensorRadices readingFrom readingOf
+    upperRadices upperOf lowerRadices lowerOf telemetryAt firstNotTelemetry numbersOf messageCarried ifLegal carried numbersAnswer carriedAnswer decoded digitCharacter decimalOf
     decimalText integerText lineOf header readingText refusalText answerText hasForm callsignIn locatorIn powerIn lineAnswer lineText
     lineAfter outputAfter lastText outputOf linesOf exampleInput exampleOutput
 example-shown = sameList-equal (outputOf exampleInput) exampleOutput refl

@@ -12,13 +12,12 @@ use Rattle.basics.proofs.Choice.{cond-passed, cond-both}
 use Rattle.basics.proofs.ListLaws.{all-pass, none-fails}
 use Rattle.refusal.specs.declared.Refusal.{Refusal}
 use Rattle.refusal.specs.Refusals.{refusal, notTelemetry}
-use Rattle.message.specs.Word.{wordOf}
-use Rattle.message.specs.Answer.{packed, packedNumbers}
-use Rattle.message.specs.declared.Packed.{Packed}
-use Rattle.message.proofs.AnswerLaws.{Legal, right-lengths, legal-whole, packed-word, legal-of-packed, packed-answered, refused-no-word}
+use Rattle.message.specs.Answer.{checked}
+use Rattle.message.specs.declared.Checked.{Checked}
+use Rattle.message.proofs.AnswerLaws.{Legal, right-lengths, legal-whole, checked-legal, legal-of-checked, checked-nonzero}
 use Rattle.u4b.specs.Channel.{isFirstCharacter, isThirdCharacter}
 use Rattle.u4b.specs.Characters.{callsignWith, locatorWith, powerWith, telemetryAt, firstNotTelemetry}
-use Rattle.u4b.specs.Answer.{numbersOf, messageCarried, ifPacked, carried}
+use Rattle.u4b.specs.Answer.{numbersOf, messageCarried, ifLegal, carried}
 use Rattle.u4b.specs.declared.Numbers.{Numbers}
 use Rattle.u4b.specs.declared.Carried.{Carried}
 use Rattle.u4b.proofs.CallsignLaws.{callsignWith-length, callsignWith-legal, callsignWith-telemetry, upperOf-callsignWith, first-of, third-of, callsignWith-upperOf}
@@ -27,14 +26,14 @@ use Rattle.u4b.proofs.LocatorLaws.{locatorWith-length, locatorWith-lega
 -- ---- The cases
 
 module _ (callsign locator : List ℕ) (power : ℕ) where
-  pub carried-refused : (f : Refusal) → packed callsign locator power ≡ Packed.Refused f → carried callsign locator power ≡ Carried.Refused f
-  unfolding carried ifPacked
+  pub carried-refused : (f : Refusal) → checked callsign locator power ≡ Checked.Refused f → carried callsign locator power ≡ Carried.Refused f
+  unfolding carried ifLegal
   carried-refused f e = rw e
 
-  module _ (word : ℕ) (is-packed : packed callsign locator power ≡ Packed.Word word) where
+  module _ (legal : checked callsign locator power ≡ Checked.Legal) where
     carried-message : carried callsign locator power ≡ messageCarried callsign locator power
-    unfolding carried ifPacked
-    carried-message = rw is-packed
+    unfolding carried ifLegal
+    carried-message = rw legal
 
     pub carried-not-telemetry : (place : ℕ) → firstNotTelemetry callsign ≡ place → place < 6
         → carried callsign locator power ≡ Carried.Refused (refusal notTelemetry place)
@@ -54,12 +53,11 @@ all-telemetry callsign six h = omega (arith, none-fails telemetryAt 0 callsign (
 
 module _ (first third upper lower : ℕ) (is-first : isFirstCharacter first ≡ true) (is-third : isThirdCharacter third ≡ true) where
   -- What is written is a message of legal characters and power.
-  written-packed : packed (callsignWith first third upper) (locatorWith lower) (powerWith lower)
-      ≡ Packed.Word (wordOf (callsignWith first third upper) (locatorWith lower) (powerWith lower))
-  written-packed =
+  written-legal : checked (callsignWith first third upper) (locatorWith lower) (powerWith lower) ≡ Checked.Legal
+  written-legal =
       let six = callsignWith-length first third upper in
       let four = locatorWith-length lower in
-      packed-word _ _ _ (right-lengths (callsignWith first third upper) (locatorWith lower) six four)
+      checked-legal _ _ _ (right-lengths (callsignWith first third upper) (locatorWith lower) six four)
       (legal-whole _ _ six four (callsignWith-legal first third is-first is-third upper) (locatorWith-legal lower)) (powerWith-legal lower)
 
   pub read-write : upper < 632_736 → lower < 615_600
@@ -67,7 +65,7 @@ module _ (first third upper lower : ℕ) (is-first : isFirstCharacter first ≡ 
       ≡ Carried.Numbers (record { first = first; third = third; upper = upper; lower = lower })
   unfolding numbersOf callsignWith
   read-write h k =
-      carried-numbers _ _ _ _ written-packed (omega (arith, callsignWith-telemetry first third is-first is-third upper))
+      carried-numbers _ _ _ written-legal (omega (arith, callsignWith-telemetry first third is-first is-third upper))
       ∙ rw (upperOf-callsignWith first third is-first is-third upper h, lowerOf-locatorWith lower k)
 
 -- ---- What is read is what writing makes
@@ -100,26 +98,26 @@ carries callsign locator power n l e =
 
 pub write-read : (callsign locator : List ℕ) (power : ℕ) (n : Numbers) → carried callsign locator power ≡ Carried.Numbers n
     → Carries callsign locator power n
-write-read callsign locator power n e = go (packed callsign locator power) refl
+write-read callsign locator power n e = go (checked callsign locator power) refl
   where
-    go : (answer : Packed) → packed callsign locator power ≡ answer → Carries callsign locator power n
-    go (Packed.Word w) p =
-        carries callsign locator power n (legal-of-packed callsign locator power w p .0) (sym (carried-message callsign locator power w p) ∙ e)
-    go (Packed.Refused f) p = absurd (refused-no-numbers f n (sym (carried-refused callsign locator power f p) ∙ e))
+    go : (answer : Checked) → checked callsign locator power ≡ answer → Carries callsign locator power n
+    go Checked.Legal c =
+        carries callsign locator power n (legal-of-checked callsign locator power c) (sym (carried-message callsign locator power c) ∙ e)
+    go (Checked.Refused f) c = absurd (refused-no-numbers f n (sym (carried-refused callsign locator power f c) ∙ e))
 
 -- ---- No refusal has the number 0
 
 Nonzero : Carried → Type 0
 Nonzero answer = (f : Refusal) → answer ≡ Carried.Refused f → f .number ≡ 0 → ⊥
 
-nonzero-if : (answer : Packed) (d : Carried) → (packedNumbers answer .number ≡ 0 → answer ≡ Packed.Word (packedNumbers answer .word)) → Nonzero d
-    → Nonzero (ifPacked answer d)
-unfolding Nonzero ifPacked packedNumbers
-nonzero-if (Packed.Word w) d h k = k
-nonzero-if (Packed.Refused g) d h k = λ f e z. let same : g .number ≡ f .number = cc in refused-no-word g _ (h (same ∙ z))
+nonzero-if : (answer : Checked) (d : Carried) → ((f : Refusal) → answer ≡ Checked.Refused f → f .number ≡ 0 → ⊥) → Nonzero d
+    → Nonzero (ifLegal answer d)
+unfolding Nonzero ifLegal
+nonzero-if Checked.Legal d h k = k
+nonzero-if (Checked.Refused g) d h k = λ f e z. let same : g .number ≡ f .number = cc in h g refl (same ∙ z)
 
 pub refused-nonzero : (callsign locator : List ℕ) (power : ℕ) (f : Refusal) → carried callsign locator power ≡ Carried.Refused f → f .number ≡ 0 → ⊥
 unfolding Nonzero carried messageCarried
 refused-nonzero callsign locator power =
-    nonzero-if (packed callsign locator power) (messageCarried callsign locator power) (packed-answered callsign locator power)
+    nonzero-if (checked callsign locator power) (messageCarried callsign locator power) (checked-nonzero callsign locator power)
     (cond-both Nonzero (ltb (firstNotTelemetry callsign) 6) (λ f e z. let n : notTelemetry ≡ f .number = cc in omega arith) (λ f e z. refused-no-numbers f _ (sym e)))

@@ -5,8 +5,8 @@ use mathlib.Core.List.{List}
 use lib.Dec.{ltb}
 use lib.ListN.{getD}
 use Rattle.refusal.specs.Refusals.{refusal, notTelemetry}
-use Rattle.message.specs.Answer.{packed}
-use Rattle.message.specs.declared.Packed.{Packed}
+use Rattle.message.specs.Answer.{checked}
+use Rattle.message.specs.declared.Checked.{Checked}
 use Rattle.u4b.specs.Characters.{upperOf, lowerOf, firstNotTelemetry}
 use Rattle.u4b.specs.declared.Numbers.{Numbers}
 use Rattle.u4b.specs.declared.Carried.{Carried}
@@ -26,10 +26,10 @@ messageCarried callsign locator power =
     cond (ltb (firstNotTelemetry callsign) 6) (Carried.Refused (refusal notTelemetry (firstNotTelemetry callsign)))
     (Carried.Numbers (numbersOf callsign locator power))
 
--- 1, 2 and 3 are those of packing: the answer where the message is packed, else its refusal.
-unfoldable pub ifPacked : Packed → Carried → Carried
-ifPacked (Packed.Word w) answer = answer
-ifPacked (Packed.Refused f) answer = Carried.Refused f
+-- 1, 2 and 3 are those of any message: the answer where it is legal, else its refusal.
+unfoldable pub ifLegal : Checked → Carried → Carried
+ifLegal Checked.Legal answer = answer
+ifLegal (Checked.Refused f) answer = Carried.Refused f
 
 unfoldable pub carried : List ℕ → List ℕ → ℕ → Carried
-carried callsign locator power = ifPacked (packed callsign locator power) (messageCarried callsign locator power)
+carried callsign locator power = ifLegal (checked callsign locator power) (messageCarried callsign locator power)

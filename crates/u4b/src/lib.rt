@@ -10,7 +10,7 @@ ghost use lib.ListN.{length};
 ghost use Rattle.u4b.specs.Channel.{isFirstCharacter, isThirdCharacter};
 ghost use Rattle.u4b.specs.Characters.{callsignWith, locatorWith, powerWith};
 ghost use Rattle.u4b.specs.Answer.{carried};
-use message::Packed;
+use message::Checked;
 use refusal::NOT_TELEMETRY;
 use refusal::Refusal;
 
@@ -44,12 +44,12 @@ pub fn write(numbers: Numbers, callsign: &mut [u8], locator: &mut [u8]) -> u32
     locator::write_locator(numbers.lower, locator)
 }
 
-// The numbers of a message. What isn't a message is refused as when it is packed.
+// The numbers of a message.
 pub fn read(callsign: &[u8], locator: &[u8], power: u32) -> Carried
     ensures { λ r. ⌜ r ≡ carried (now (callsign .entry)) (now (locator .entry)) power ⌝ }
 {
-    let packed = message::pack(callsign, locator, power);
-    if let Packed::Refused(refusal) = packed {
+    let checked = message::check(callsign, locator, power);
+    if let Checked::Refused(refusal) = checked {
         return Carried::Refused(refusal);
     }
     let place = callsign::first_not_telemetry(callsign);

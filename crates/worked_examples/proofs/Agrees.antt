@@ -10,11 +10,11 @@ use Rattle.basics.proofs.ListLaws.{sameList-equal}
 use Rattle.radix.specs.Numeral.{count, numberOf, numberFrom, digitsOf}
 use Rattle.power.specs.Powers.{powers, indexIn, powerIndex, powerAt, legalPower}
 use Rattle.message.specs.Character.{value, character, callsignSets, locatorSets, setAt, legalAt, digitAt, characterAt, overPlaces, digitsFrom, charactersFrom}
-use Rattle.message.specs.Word.{callsignRadices, callsignNumber, locatorNumberFrom, locatorNumber, lowerNumber, wordFrom, wordOf}
-use Rattle.message.specs.Answer.{rightLengths, packed, givenNumbers}
+use Rattle.message.specs.Word.{callsignRadices, callsignNumber, locatorNumberFrom, locatorNumber, lowerNumber}
+use Rattle.message.specs.Answer.{rightLengths, checked, givenNumbers}
 use Rattle.u4b.specs.Channel.{isFirstCharacter}
 use Rattle.u4b.specs.Characters.{upperRadices, callsignWith, upperOf, lowerRadices, locatorWith, powerWith, lowerOf, telemetryAt, firstNotTelemetry}
-use Rattle.u4b.specs.Answer.{numbersOf, messageCarried, ifPacked, carried}
+use Rattle.u4b.specs.Answer.{numbersOf, messageCarried, ifLegal, carried}
 use Rattle.telemetry.specs.Ranges.{temperatureInRange, inRanges, firstOutOfRange}
 use Rattle.telemetry.specs.Codes.{altitudeCode, temperatureCode, voltageCode, speedCode, millivolts}
 use Rattle.telemetry.specs.Numbers.{positionRadices, positionDigits, positionNumber, sensorRadices, sensorDigits, sensorNumber}
@@ -35,8 +35,8 @@ agree (r ∷ rs) e =
 pub bench-sheet-agrees : Agrees benchSheet
 unfolding sameList firstFailing count numberOf numberFrom digitsOf powers indexIn powerIndex powerAt legalPower value character
     callsignSets locatorSets setAt legalAt digitAt characterAt overPlaces digitsFrom charactersFrom callsignRadices callsignNumber
-    locatorNumberFrom locatorNumber lowerNumber wordFrom wordOf rightLengths packed givenNumbers isFirstCharacter upperRadices callsignWith
-    upperOf lowerRadices locatorWith powerWith lowerOf telemetryAt firstNotTelemetry numbersOf messageCarried ifPacked carried
+    locatorNumberFrom locatorNumber lowerNumber rightLengths checked givenNumbers isFirstCharacter upperRadices callsignWith
+    upperOf lowerRadices locatorWith powerWith lowerOf telemetryAt firstNotTelemetry numbersOf messageCarried ifLegal carried
     temperatureInRange inRanges firstOutOfRange altitudeCode temperatureCode voltageCode speedCode millivolts positionRadices positionDigits
     positionNumber sensorRadices sensorDigits sensorNumber measuredAnswer callsignFrom locatorFrom numbersAnswer carriedAnswer decoded
     decodedNumbers bytes number text refused measuredAt writeRefused readRefused benchSheet

@@ -1,105 +1,82 @@
--- `message::pack` meets its contract: at each return the tests that led there say which case of the definition holds, and the word of a
--- legal message reads back.
+-- `message::pack` meets its contract: what isn't legal is refused as it was; the word of what is reads back (`unpack-pack`).
 -- Assumes nothing.
 use mathlib.Core.Path.{_≡_, sym, ap, _∙_}
-use mathlib.Core.Bool.{true}
 use native.Mathlib.Omega.{arith}
-use borrow.Author.Needs.{needs}
-use borrow.Author.Tests.{not-true, not-false}
-use lib.ListN.{length}
-use Rattle.message.specs.Answer.{rightLengths}
-use Rattle.message.specs.Word.{wordOf}
-use Rattle.message.specs.declared.Packed.{Packed}
+use Rattle.basics.proofs.ListLaws.{none-fails}
 use Rattle.power.proofs.Laws.{legal-power-end}
+use Rattle.message.specs.Character.{legalAt}
+use Rattle.message.specs.Word.{wordOf}
+use Rattle.message.specs.Answer.{checked}
+use Rattle.message.specs.declared.Checked.{Checked}
+use Rattle.message.specs.declared.Packed.{Packed}
 use Rattle.message.proofs.WordLaws.{callsignNumber-below, locatorNumber-below}
-use Rattle.message.proofs.AnswerLaws.{Legal, lengths-of-right, legal-message, packed-length, packed-character, packed-power, packed-word}
+use Rattle.message.proofs.AnswerLaws.{Legal, legal-of-checked, packed-refused, packed-word}
 use Rattle.message.proofs.RoundTripLaws.{unpack-pack}
+use borrow.Author.Needs.{needs}
 use Rattle.message.proofs.pack.Statement.{statement}
 use Rattle.message.proofs.pack.Tie as tie
-use Rattle.basics.proofs.ListLaws.{none-fails}
-use Rattle.message.specs.Character.{legalAt}
 
--- Past the first test both lengths are right.
-right : (c : tie.Else1) → rightLengths (length (c .before .before .before .before .args .callsign .now)) (length (c .before .before .before .before .args .locator .now)) ≡ true
-right c = sym (c .before .right-lengths .ensures) ∙ not-false _ (c .if1 .left)
+-- Past the test the message is legal.
+is-checked : (c : tie.After-enum-told) → let a = c .before .before .before .before .before .args in
+    checked (a .callsign .now) (a .locator .now) (a .power) ≡ Checked.Legal
+is-checked c = sym (c .before .before .check .ensures) ∙ c .enum-told .given .1
 
--- Past all tests the message is legal.
-legal : (c : tie.Else3) → let a = c .before .before .before .before .before .before .before .before .args in
+its-legal : (c : tie.After-enum-told) → let a = c .before .before .before .before .before .args in
     Legal (a .callsign .now) (a .locator .now) (a .power)
-legal c =
-    let e = c .before .before .before .before in
-    legal-message _ _ _ (right e) (omega arith) (sym (c .before .is-legal .ensures) ∙ not-false _ (c .if3 .left))
+its-legal c =
+    let a = c .before .before .before .before .before .args in
+    legal-of-checked (a .callsign .now) (a .locator .now) (a .power) (is-checked c)
 
-right-lengths-requires : tie.Need-right-lengths-requires
-right-lengths-requires c κs = search needs
+check-requires : tie.Need-check-requires
+check-requires c κs = search needs
+
+enum-known-checked : tie.Need-enum-known-checked
+enum-known-checked c = search needs
 
 returns : tie.Need-returns
 returns c =
-    let a = c .before .before .before .before .args in
-    (sym (packed-length (a .callsign .now) (a .locator .now) (a .power) (sym (c .before .right-lengths .ensures) ∙ not-true _ (c .if1 .taken))), tt)
+    let p = c .before .before .before in
+    let a = p .before .before .before .args in
+    (sym (packed-refused (a .callsign .now) (a .locator .now) (a .power) _ (sym (p .check .ensures) ∙ c .before .checked .given .1)), tt)
 
-first-bad-of-requires : tie.Need-first-bad-of-requires
-first-bad-of-requires c κs =
-    let a = c .before .before .before .before .args in
-    lengths-of-right (a .callsign .now) (a .locator .now) (right c)
-
-cast-t12 : tie.Need-cast-t12
-cast-t12 c = search needs
-
-returns-2 : tie.Need-returns-2
-returns-2 c =
-    let e = c .before .before in
-    let a = e .before .before .before .before .args in
-    (sym (packed-character (a .callsign .now) (a .locator .now) (a .power) (right e) _ (sym (c .before .first-bad-of .ensures)) (c .if2 .taken)), tt)
-
-is-legal-requires : tie.Need-is-legal-requires
-is-legal-requires c κs = search needs
-
-returns-3 : tie.Need-returns-3
-returns-3 c =
-    let e = c .before .before .before .before in
-    let a = e .before .before .before .before .args in
-    (sym (packed-power (a .callsign .now) (a .locator .now) (a .power) (right e) (omega arith) (sym (c .before .is-legal .ensures) ∙ not-true _ (c .if3 .taken))), tt)
+enum-told : tie.Need-enum-told
+enum-told c = search needs
 
 callsign-number-requires : tie.Need-callsign-number-requires
 callsign-number-requires c κs =
-    let l = legal c in
-    (l .six, omega (arith, none-fails legalAt 0 _ (l .callsign-legal)))
+    let l = its-legal c in
+    (l .six, omega (arith, l .six, none-fails legalAt 0 _ (l .callsign-legal)))
 
 locator-number-requires : tie.Need-locator-number-requires
 locator-number-requires c κs =
-    let l = legal (c .before) in
-    (l .four, omega (arith, none-fails legalAt 6 _ (l .locator-legal)))
+    let l = its-legal (c .before) in
+    (l .four, omega (arith, l .four, none-fails legalAt 6 _ (l .locator-legal)))
 
 assemble-requires : tie.Need-assemble-requires
 assemble-requires c κs =
-    let l = legal (c .before .before) in
+    let l = its-legal (c .before .before) in
     omega (arith, callsignNumber-below _ (l .six) (l .callsign-legal), locatorNumber-below _ (l .four) (l .locator-legal), legal-power-end _ (l .power-legal))
 
-returns-4 : tie.Need-returns-4
+returns-2 : tie.Need-returns-2
 unfolding wordOf
-returns-4 c =
-    let e = c .before .before .before .before .before .before .before in
-    let a = e .before .before .before .before .args in
-    let l = legal (c .before .before .before) in
+returns-2 c =
+    let k = c .before .before .before in
+    let a = k .before .before .before .before .before .args in
     let callsign = c .before .before .callsign-number .ensures in
     let locator = c .before .locator-number .ensures in
     let word : c .assemble .result ≡ wordOf (a .callsign .now) (a .locator .now) (a .power) = cc (c .assemble .ensures) in
-    let made = packed-word (a .callsign .now) (a .locator .now) (a .power) (right e) (omega arith) (l .power-legal) ∙ ap Packed.Word (sym word) in
+    let made = packed-word (a .callsign .now) (a .locator .now) (a .power) (is-checked k) ∙ ap Packed.Word (sym word) in
     (sym made, unpack-pack _ _ _ _ made)
 
 pub pack-spec : {M : Type 1} → statement M
 pack-spec =
     tie.close
     (tie.spec
-    right-lengths-requires
+    check-requires
+    enum-known-checked
     returns
-    first-bad-of-requires
-    cast-t12
-    returns-2
-    is-legal-requires
-    returns-3
+    enum-told
     callsign-number-requires
     locator-number-requires
     assemble-requires
-    returns-4)
+    returns-2)

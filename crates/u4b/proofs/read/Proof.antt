@@ -1,13 +1,13 @@
--- `u4b::read` meets its contract: what isn't packed is refused as it was; of what is, each step is the definition's.
+-- `u4b::read` meets its contract: what isn't legal is refused as it was; of what is, each step is the definition's.
 -- Assumes nothing.
 use mathlib.Core.Path.{_≡_, sym, _∙_}
 use native.Mathlib.Omega.{arith}
 use borrow.Author.Needs.{needs}
 use Rattle.basics.proofs.ListLaws.{none-fails}
 use Rattle.message.specs.Character.{legalAt}
-use Rattle.message.specs.Answer.{packed}
-use Rattle.message.specs.declared.Packed.{Packed}
-use Rattle.message.proofs.AnswerLaws.{Legal, legal-of-packed}
+use Rattle.message.specs.Answer.{checked}
+use Rattle.message.specs.declared.Checked.{Checked}
+use Rattle.message.proofs.AnswerLaws.{Legal, legal-of-checked}
 use Rattle.u4b.specs.Answer.{numbersOf}
 use Rattle.u4b.proofs.AnswerLaws.{carried-refused, carried-not-telemetry, carried-numbers, all-telemetry}
 use Rattle.u4b.proofs.read.Statement.{statement}
@@ -17,28 +17,28 @@ use Rattle.u4b.proofs.callsign.first_not_telemetry.Reads as first-not-t
 use Rattle.u4b.proofs.callsign.upper_of.Reads as upper-of-reads
 use Rattle.u4b.proofs.locator.lower_of.Reads as lower-of-reads
 
--- Past the first test the message is packed.
-its-word : (c : tie.After-enum-told) → let a = c .before .before .before .before .before .args in
-    packed (a .callsign .now) (a .locator .now) (a .power) ≡ Packed.Word (c .enum-told .given .0 .0)
-its-word c = sym (c .before .before .pack .ensures .0) ∙ c .enum-told .given .1
+-- Past the first test the message is legal.
+is-checked : (c : tie.After-enum-told) → let a = c .before .before .before .before .before .args in
+    checked (a .callsign .now) (a .locator .now) (a .power) ≡ Checked.Legal
+is-checked c = sym (c .before .before .check .ensures) ∙ c .enum-told .given .1
 
 its-legal : (c : tie.After-enum-told) → let a = c .before .before .before .before .before .args in
     Legal (a .callsign .now) (a .locator .now) (a .power)
 its-legal c =
     let a = c .before .before .before .before .before .args in
-    legal-of-packed (a .callsign .now) (a .locator .now) (a .power) _ (its-word c) .0
+    legal-of-checked (a .callsign .now) (a .locator .now) (a .power) (is-checked c)
 
-pack-requires : tie.Need-pack-requires
-pack-requires c κs = search needs
+check-requires : tie.Need-check-requires
+check-requires c κs = search needs
 
-enum-known-packed : tie.Need-enum-known-packed
-enum-known-packed c = search needs
+enum-known-checked : tie.Need-enum-known-checked
+enum-known-checked c = search needs
 
 returns : tie.Need-returns
 returns c =
     let p = c .before .before .before in
     let a = p .before .before .before .args in
-    sym (carried-refused (a .callsign .now) (a .locator .now) (a .power) _ (sym (p .pack .ensures .0) ∙ c .before .packed .given .1))
+    sym (carried-refused (a .callsign .now) (a .locator .now) (a .power) _ (sym (p .check .ensures) ∙ c .before .checked .given .1))
 
 enum-told : tie.Need-enum-told
 enum-told c = search needs
@@ -53,7 +53,7 @@ returns-2 : tie.Need-returns-2
 returns-2 c =
     let k = c .before .before in
     let a = k .before .before .before .before .before .args in
-    sym (carried-not-telemetry (a .callsign .now) (a .locator .now) (a .power) _ (its-word k) _ (sym (c .before .first-not-telemetry .ensures)) (c .if1 .taken))
+    sym (carried-not-telemetry (a .callsign .now) (a .locator .now) (a .power) (is-checked k) _ (sym (c .before .first-not-telemetry .ensures)) (c .if1 .taken))
 
 shared-slice-read-t11 : tie.Need-shared-slice-read-t11
 shared-slice-read-t11 c =
@@ -84,14 +84,14 @@ returns-3 c =
     let k = e .before .before in
     let a = k .before .before .before .before .before .args in
     rw (u .upper-of .ensures, c .lower-of .ensures)
-    (sym (carried-numbers (a .callsign .now) (a .locator .now) (a .power) _ (its-word k) (omega (arith, e .before .first-not-telemetry .ensures))))
+    (sym (carried-numbers (a .callsign .now) (a .locator .now) (a .power) (is-checked k) (omega (arith, e .before .first-not-telemetry .ensures))))
 
 pub read-spec : {M : Type 1} → statement M
 read-spec =
     tie.close
     (tie.spec
-    pack-requires
-    enum-known-packed
+    check-requires
+    enum-known-checked
     returns
     enum-told
     first-not-telemetry-requires
