@@ -3,13 +3,13 @@ use mathlib.Core.Path.{_≡_, refl, sym, ap, _∙_, subst}
 use Prim.Native.Nat.{ℕ, zero, suc, _+_, _-_, _≤_, _<_}
 use native.Mathlib.Nat.{add-zero, add-sub-of-le, add-sub-cancel-left}
 use native.Mathlib.Omega.{arith}
-use mathlib.Core.Bool.{true}
+use mathlib.Core.Bool.{true, cond}
 use mathlib.Core.List.{List, [], _∷_, _++_}
-use lib.Dec.{leb}
-use lib.ListN.{length, getD, List·getD-map}
-use borrow.Author.Tests.{le-leb, lt-ltb, le-ltb, leb-true, ltb-true, ne-eqb}
+use lib.Dec.{eqb, leb, ltb}
+use lib.ListN.{length, getD}
+use borrow.Author.Tests.{le-leb, lt-ltb, le-ltb, leb-true, ltb-true, eqb-true, ne-eqb}
 use Rattle.radix.specs.Numeral.{Digits}
-use Rattle.basics.proofs.Tables.{every-at}
+use Rattle.basics.proofs.Tables.{every-at, below-at}
 use Rattle.basics.proofs.Choice.{between-true, between-below, between-above, both-true, below-or-not, equal-or-not}
 use Rattle.message.specs.Character.{value, character, CharacterSet, callsignSets, locatorSets, setAt, legalAt, digitAt, characterAt, overPlaces, digitsFrom, charactersFrom, DigitsAt}
 use Rattle.basics.proofs.ListLaws.{AllPass}
@@ -83,13 +83,25 @@ sets = callsignSets ++ locatorSets
 abbrev none : CharacterSet
 none = record { lowest = 0; size = 0 }
 
-pub lowest-table : (place : ℕ) → setAt place .lowest ≡ getD (0 ∷ 0 ∷ 0 ∷ 10 ∷ 10 ∷ 10 ∷ 10 ∷ 10 ∷ 0 ∷ 0 ∷ []) place 0
-unfolding setAt callsignSets locatorSets
-lowest-table place = sym (List·getD-map (λ (s : CharacterSet). s .lowest) sets place none)
+-- The lowest value and the size of a place's set by the place, as a decision: one test of all ten places each.
+abbrev pub lowestBy : ℕ → ℕ
+lowestBy place = cond (ltb place 3) 0 (cond (ltb place 8) 10 0)
 
-pub size-table : (place : ℕ) → setAt place .size ≡ getD (37 ∷ 36 ∷ 10 ∷ 27 ∷ 27 ∷ 27 ∷ 18 ∷ 18 ∷ 10 ∷ 10 ∷ []) place 0
+pub lowest-by : (place : ℕ) → place < 10 → setAt place .lowest ≡ lowestBy place
 unfolding setAt callsignSets locatorSets
-size-table place = sym (List·getD-map (λ (s : CharacterSet). s .size) sets place none)
+lowest-by place h = eqb-true _ _ (below-at (λ (p : ℕ). eqb (setAt p .lowest) (lowestBy p)) 10 refl place h)
+
+abbrev pub sizeBy : ℕ → ℕ
+sizeBy place =
+    cond (eqb place 0) 37
+    (cond (eqb place 1) 36
+    (cond (eqb place 2) 10
+    (cond (ltb place 6) 27
+    (cond (ltb place 8) 18 10))))
+
+pub size-by : (place : ℕ) → place < 10 → setAt place .size ≡ sizeBy place
+unfolding setAt callsignSets locatorSets
+size-by place h = eqb-true _ _ (below-at (λ (p : ℕ). eqb (setAt p .size) (sizeBy p)) 10 refl place h)
 
 -- No set goes past the space.
 pub set-end : (place : ℕ) → setAt place .lowest + setAt place .size ≤ 37

@@ -30,23 +30,41 @@ fn character_of(value: u64) -> u8
     }
 }
 
-// The characters of a place's set have the values from its lowest on, as many as its size.
-const LOWEST: [u64; 10] = [0, 0, 0, 10, 10, 10, 10, 10, 0, 0];
-
-const SIZE: [u64; 10] = [37, 36, 10, 27, 27, 27, 18, 18, 10, 10];
-
+// The characters of a place's set have the values from its lowest on, as many as its size. These are
+// decisions and no tables, as a table that is read entry by entry is made anew for each.
 fn lowest_at(place: usize) -> u64
     requires { ⌜ place < 10 ⌝ }
     ensures { λ r. ⌜ r ≡ setAt place .lowest ⌝ }
 {
-    LOWEST[place]
+    if place < 3 {
+        return 0;
+    }
+    if place < 8 {
+        return 10;
+    }
+    0
 }
 
 fn size_at(place: usize) -> u64
     requires { ⌜ place < 10 ⌝ }
     ensures { λ r. ⌜ r ≡ setAt place .size ⌝ }
 {
-    SIZE[place]
+    if place == 0 {
+        return 37;
+    }
+    if place == 1 {
+        return 36;
+    }
+    if place == 2 {
+        return 10;
+    }
+    if place < 6 {
+        return 27;
+    }
+    if place < 8 {
+        return 18;
+    }
+    10
 }
 
 fn is_legal_at(place: usize, byte: u8) -> bool

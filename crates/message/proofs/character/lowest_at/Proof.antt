@@ -1,19 +1,23 @@
--- `message::character::lowest_at` meets its contract: the table is that of the sets' lowest values.
+-- `message::character::lowest_at` meets its contract: its tests are those of the law.
 -- Assumes nothing.
-use mathlib.Core.Path.{sym}
-use Rattle.message.proofs.CharacterLaws.{lowest-table}
-use borrow.Author.Needs.{needs}
+use mathlib.Core.Path.{sym, _∙_}
+use borrow.Author.Tests.{lt-ltb, le-ltb}
+use Rattle.message.proofs.CharacterLaws.{lowest-by}
 use Rattle.message.proofs.character.lowest_at.Statement.{statement}
 use Rattle.message.proofs.character.lowest_at.Tie as tie
 
-mul-result : tie.Need-mul-result
-mul-result c = search needs
-
-array-read-result : tie.Need-array-read-result
-array-read-result c = search needs
-
 returns : tie.Need-returns
-returns c = sym (lowest-table (c .args .place))
+returns c = sym (lowest-by (c .before .args .place) (c .before .pre) ∙ rw (lt-ltb _ 3 (c .if1 .taken)))
+
+returns-2 : tie.Need-returns-2
+returns-2 c =
+    let b = c .before in
+    sym (lowest-by (b .before .args .place) (b .before .pre) ∙ rw (le-ltb _ 3 (b .if1 .left), lt-ltb _ 8 (c .if2 .taken)))
+
+returns-3 : tie.Need-returns-3
+returns-3 c =
+    let b = c .before in
+    sym (lowest-by (b .before .args .place) (b .before .pre) ∙ rw (le-ltb _ 3 (b .if1 .left), le-ltb _ 8 (c .if2 .left)))
 
 pub lowest-at-spec : {M : Type 1} → statement M
-lowest-at-spec = tie.close (tie.spec mul-result array-read-result returns)
+lowest-at-spec = tie.close (tie.spec returns returns-2 returns-3)
