@@ -38,7 +38,7 @@ pub fn right_lengths(callsign: usize, locator: usize) -> bool
 
 // Whether a message is legal: its lengths, its characters and its power.
 pub fn check(callsign: &[u8], locator: &[u8], power: u32) -> Checked
-    ensures { λ r. ⌜ r ≡ checked (now (callsign .entry)) (now (locator .entry)) power ⌝ }
+    ensures answer { λ r. ⌜ r ≡ checked (now (callsign .entry)) (now (locator .entry)) power ⌝ }
 {
     if !right_lengths(callsign.len(), locator.len()) {
         return Checked::Refused(Refusal {

@@ -6,7 +6,7 @@ pub struct Refusal {
     pub place: u32,
 }
 
-// A lent buffer hasn't its exact length.
+// A lent buffer hasn't its exact length. In the line program: a line hasn't its form.
 pub const WRONG_LENGTH: u32 = 1;
 // A character is outside its set. Place: the first such, 0 to 9.
 pub const BAD_CHARACTER: u32 = 2;

@@ -13,14 +13,18 @@ use Rattle.telemetry.specs.declared.Measured.{Measured}
 unfoldable pub temperatureInRange : ℤ → Bool
 temperatureInRange tenths = leZ (negℤ (pos 500)) tenths && leZ tenths (pos 399)
 
+-- "Sub-square letters g5, g6 are A-X": in ASCII 65 to 88
+abbrev pub isSubSquare : ℕ → Bool
+isSubSquare byte = between 65 88 byte
+
 -- What is measured, in the order of the places: "0 first character, 1 third, 2 g5, 3 g6, 4 altitude, 5 temperature, 6 voltage, 7 speed,
--- 8 GPS"; each is in its range. In ASCII, A-X are 65 to 88.
+-- 8 GPS"; each is in its range.
 unfoldable pub inRanges : Measured → List Bool
 inRanges m =
     isFirstCharacter (m .first)
     ∷ isThirdCharacter (m .third)
-    ∷ between 65 88 (m .grid5)
-    ∷ between 65 88 (m .grid6)
+    ∷ isSubSquare (m .grid5)
+    ∷ isSubSquare (m .grid6)
     ∷ between 0 21_359 (m .altitude)
     ∷ temperatureInRange (m .temperature)
     ∷ between 3_000 4_999 (m .voltage)

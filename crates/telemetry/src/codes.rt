@@ -66,7 +66,7 @@ fn sensor_number(m: Measured) -> u64
 }
 
 // The channel's characters and both numbers.
-pub(crate) fn numbers_of(m: Measured) -> Numbers
+pub(crate) fn numbers_from(m: Measured) -> Numbers
     requires { ⌜ firstOutOfRange m ≡ 9 ⌝ }
     ensures { λ r. ⌜ r ≡ numbersFrom m ⌝ }
 {

@@ -64,7 +64,7 @@ pub fn write(measured: Measured, callsign: &mut [u8], locator: &mut [u8]) -> Giv
             place: bad,
         });
     }
-    let numbers = codes::numbers_of(measured);
+    let numbers = codes::numbers_from(measured);
     Given::Power(u4b::write(numbers, callsign, locator))
 }
 

@@ -2,14 +2,14 @@
 ghost use mathlib.Core.Path.{_≡_};
 ghost use Rattle.basics.specs.Test.{between};
 ghost use Rattle.basics.specs.Lists.{firstFalse};
-ghost use Rattle.telemetry.specs.Ranges.{temperatureInRange, firstOutOfRange};
+ghost use Rattle.telemetry.specs.Ranges.{isSubSquare, temperatureInRange, firstOutOfRange};
 use super::Measured;
 use u4b::channel::is_first_character;
 use u4b::channel::is_third_character;
 
 // A letter of a sub-square, A to X.
 fn is_sub_square(byte: u8) -> bool
-    ensures { λ r. ⌜ r ≡ between 65 88 byte ⌝ }
+    ensures { λ r. ⌜ r ≡ isSubSquare byte ⌝ }
 {
     match byte {
         b'A'..=b'X' => true,

@@ -16,7 +16,8 @@ use Rattle.basics.proofs.Choice.{cond-both}
 use Rattle.telemetry.specs.declared.Reading.{Reading}
 use Rattle.telemetry.specs.declared.Decoded.{Decoded}
 use Rattle.refusal.specs.declared.Refusal.{Refusal}
-use Rattle.telemetry_lines.specs.Text.{minus, digitCharacter, decimalOf, decimalText, integerText, lineOf, readingText, positionText, firstSensorText, lastSensorText, refusalText, answerText, longestLine}
+use Rattle.telemetry_lines.specs.Text.{minus, digitCharacter, decimalOf, decimalText, integerText, lineOf, readingText, refusalText, answerText, longestLine}
+use Rattle.telemetry_lines.specs.Parts.{positionText, firstSensorText, lastSensorText}
 
 -- ---- Lengths
 

@@ -51,7 +51,7 @@ lineOf (w ∷ []) = w ++ (newline ∷ [])
 lineOf (w ∷ v ∷ ws) = w ++ (space ∷ lineOf (v ∷ ws))
 
 unfoldable pub header : List ℕ
-header = bytes "CH GR ALT TEMP MV KT GPS" ++ (newline ∷ [])
+header = lineOf (bytes "CH GR ALT TEMP MV KT GPS" ∷ [])
 
 -- The channel's characters, the letters of the sub-square, metres, degrees, millivolts, knots and GPS.
 unfoldable pub readingText : Reading → List ℕ
@@ -65,18 +65,6 @@ readingText r =
     ∷ decimalText (r .speed)
     ∷ decimalText (r .gps)
     ∷ [])
-
--- That line in the parts in which it is written: up to the altitude,
-unfoldable pub positionText : Reading → List ℕ
-positionText r = r .first ∷ r .third ∷ space ∷ r .grid5 ∷ r .grid6 ∷ space ∷ decimalText (r .altitude)
-
--- temperature and voltage,
-unfoldable pub firstSensorText : Reading → List ℕ
-firstSensorText r = space ∷ integerText (r .temperature) ++ (space ∷ decimalText (r .voltage))
-
--- speed, GPS and the newline.
-unfoldable pub lastSensorText : Reading → List ℕ
-lastSensorText r = space ∷ decimalText (r .speed) ++ (space ∷ decimalText (r .gps) ++ (newline ∷ []))
 
 -- "refused", the refusal's number and its place.
 unfoldable pub refusalText : Refusal → List ℕ

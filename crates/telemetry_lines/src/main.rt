@@ -25,17 +25,16 @@ use libc::STDIN_FILENO;
 use libc::STDOUT_FILENO;
 use line::Line;
 
-// What a read gave: the line that is then begun, how many bytes of the input there were, where their
-// output ends in the buffer, and whether it is written.
+// What a read gave: the line that is then begun, how many bytes of the input there were (none at its
+// end), where their output ends in the buffer, and whether they were read and it is written.
 struct Part {
     line: Line,
     count: usize,
     end: usize,
-    is_written: bool,
+    is_good: bool,
 }
 
-// Reads a part of the input, where the line has begun, and writes its output by way of `out`. An
-// input that can't be read has ended.
+// Reads a part of the input, where the line has begun, and writes its output by way of `out`.
 fn answer_part(line: Line, input: &mut [u8], out: &mut [u8]) -> Part
     requires { ⌜ line .length ≤ mostKept ⌝ }
     requires { ⌜ longestLine * length (now input) ≤ length (now out) ⌝ }
@@ -53,13 +52,15 @@ fn answer_part(line: Line, input: &mut [u8], out: &mut [u8]) -> Part
         line: begun,
         count,
         end,
-        is_written,
+        is_good: 0 <= got && is_written,
     }
 }
 
-// Answers the lines that newlines end, and returns the line that none does. It ends with the input,
-// or where the output can't be written. A loop has to end, and nothing says that an input does: so
-// the reads are counted down, from a number that no run uses up.
+// Answers the lines that newlines end, and returns the line that none does, at the end of the input.
+// Where the input can't be read, or the output not be written, it ends too, and returns no line: what
+// was read of it may be a part only. A loop has to end, and nothing says that an input does: so the
+// reads are counted down, from a number that no run uses up. Of the streams no contract can speak, so
+// nothing more is promised of the line.
 fn answer_lines(input: &mut [u8], out: &mut [u8]) -> Line
     requires { ⌜ longestLine * length (now input) ≤ length (now out) ⌝ }
     ensures { λ r. ⌜ r .length ≤ mostKept ⌝ }
@@ -69,9 +70,12 @@ fn answer_lines(input: &mut [u8], out: &mut [u8]) -> Line
     let mut reads = u64::MAX;
     while is_more && 0 < reads {
         let part = answer_part(line, input, out);
+        if !part.is_good {
+            return line::empty();
+        }
         let begun = part.line;
         line = begun;
-        is_more = part.is_written && 0 < part.count;
+        is_more = 0 < part.count;
         reads -= 1;
     }
     line
@@ -83,7 +87,10 @@ fn main() {
     let mut input = [0u8; 1024];
     let mut out = io::large_buffer();
     let start = output::put_header(&mut out);
-    io::write_all(STDOUT_FILENO, &out[..start]);
+    let is_written = io::write_all(STDOUT_FILENO, &out[..start]);
+    if !is_written {
+        return;
+    }
     let line = answer_lines(&mut input, &mut out);
     let end = stream::answer_last(line, &mut out);
     io::write_all(STDOUT_FILENO, &out[..end]);

@@ -5,7 +5,8 @@ ghost use mathlib.Core.List.{[], _∷_};
 ghost use Prim.Native.Nat.{_+_, _≤_};
 ghost use lib.IntN.{natAbs};
 ghost use lib.ListN.{length};
-ghost use Rattle.telemetry_lines.specs.Text.{space, decimalText, integerText, header, positionText, firstSensorText, lastSensorText, readingText, refusalText, answerText, longestLine};
+ghost use Rattle.telemetry_lines.specs.Text.{space, decimalText, integerText, header, readingText, refusalText, answerText, longestLine};
+ghost use Rattle.telemetry_lines.specs.Parts.{positionText, firstSensorText, lastSensorText};
 ghost use Rattle.telemetry_lines.specs.Buffer.{Put};
 use refusal::Refusal;
 use telemetry::Decoded;
@@ -91,14 +92,14 @@ fn put_position(reading: Reading, out: &mut [u8], at: usize) -> usize
     requires { ⌜ at + 16 ≤ length (now out) ⌝ }
     ensures { λ r. ⌜ Put (now (out .entry)) (now (out .exit)) at r (positionText reading) ⌝ }
 {
-    let place = [
+    let characters = [
         reading.first,
         reading.third,
         b' ',
         reading.grid5,
         reading.grid6,
     ];
-    let next = put(&place, out, at);
+    let next = put(&characters, out, at);
     put_field(reading.altitude, out, next)
 }
 
@@ -116,8 +117,8 @@ fn put_last_sensors(reading: Reading, out: &mut [u8], at: usize) -> usize
     requires { ⌜ at + 23 ≤ length (now out) ⌝ }
     ensures { λ r. ⌜ Put (now (out .entry)) (now (out .exit)) at r (lastSensorText reading) ⌝ }
 {
-    let gps = put_field(reading.speed, out, at);
-    let end = put_field(reading.gps, out, gps);
+    let at_gps = put_field(reading.speed, out, at);
+    let end = put_field(reading.gps, out, at_gps);
     put_byte(b'\n', out, end)
 }
 
@@ -125,18 +126,18 @@ fn put_reading(reading: Reading, out: &mut [u8], at: usize) -> usize
     requires { ⌜ at + longestLine ≤ length (now out) ⌝ }
     ensures { λ r. ⌜ Put (now (out .entry)) (now (out .exit)) at r (readingText reading) ⌝ }
 {
-    let first = put_position(reading, out, at);
-    let last = put_first_sensors(reading, out, first);
-    put_last_sensors(reading, out, last)
+    let at_first = put_position(reading, out, at);
+    let at_last = put_first_sensors(reading, out, at_first);
+    put_last_sensors(reading, out, at_last)
 }
 
 fn put_refusal(refusal: Refusal, out: &mut [u8], at: usize) -> usize
     requires { ⌜ at + longestLine ≤ length (now out) ⌝ }
     ensures { λ r. ⌜ Put (now (out .entry)) (now (out .exit)) at r (refusalText refusal) ⌝ }
 {
-    let number = put(b"refused", out, at);
-    let place = put_field(refusal.number, out, number);
-    let end = put_field(refusal.place, out, place);
+    let at_number = put(b"refused", out, at);
+    let at_place = put_field(refusal.number, out, at_number);
+    let end = put_field(refusal.place, out, at_place);
     put_byte(b'\n', out, end)
 }
 

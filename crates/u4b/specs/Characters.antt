@@ -20,13 +20,13 @@ upperRadices = 36 ∷ 26 ∷ 26 ∷ 26 ∷ []
 -- The callsign with the channel's first and third characters and the number.
 unfoldable pub callsignWith : ℕ → ℕ → ℕ → List ℕ
 callsignWith first third upper =
-    let p = digitsOf upperRadices upper in
+    let d = digitsOf upperRadices upper in
     first
-    ∷ characterAt 1 (getD p 0 0)
+    ∷ characterAt 1 (getD d 0 0)
     ∷ third
-    ∷ characterAt 3 (getD p 1 0)
-    ∷ characterAt 4 (getD p 2 0)
-    ∷ characterAt 5 (getD p 3 0)
+    ∷ characterAt 3 (getD d 1 0)
+    ∷ characterAt 4 (getD d 2 0)
+    ∷ characterAt 5 (getD d 3 0)
     ∷ []
 
 -- The number in a callsign.
@@ -45,8 +45,8 @@ lowerRadices = 18 ∷ 18 ∷ 10 ∷ 10 ∷ 19 ∷ []
 -- The locator and the power with the number.
 unfoldable pub locatorWith : ℕ → List ℕ
 locatorWith lower =
-    let s = digitsOf lowerRadices lower in
-    charactersFrom 6 (getD s 0 0 ∷ getD s 1 0 ∷ getD s 2 0 ∷ getD s 3 0 ∷ [])
+    let d = digitsOf lowerRadices lower in
+    charactersFrom 6 (getD d 0 0 ∷ getD d 1 0 ∷ getD d 2 0 ∷ getD d 3 0 ∷ [])
 
 unfoldable pub powerWith : ℕ → ℕ
 powerWith lower = powerAt (getD (digitsOf lowerRadices lower) 4 0)

@@ -20,15 +20,15 @@ pub(crate) fn write_callsign(first: u8, third: u8, upper: u64, callsign: &mut [u
     requires { ⌜ isThirdCharacter third ≡ true ⌝ }
     ensures { λ _. ⌜ now (callsign .exit) ≡ callsignWith first third upper ⌝ }
 {
-    let mut p = [0u64; 4];
-    radix::unpack(upper, &UPPER_RADICES, &mut p);
+    let mut upper_digits = [0u64; 4];
+    radix::unpack(upper, &UPPER_RADICES, &mut upper_digits);
     let digits = [
         digit_at(0, first),
-        p[0],
+        upper_digits[0],
         digit_at(2, third),
-        p[1],
-        p[2],
-        p[3],
+        upper_digits[1],
+        upper_digits[2],
+        upper_digits[3],
     ];
     write_characters(0, &digits, callsign);
 }

@@ -14,8 +14,8 @@ use message::Checked;
 use refusal::NOT_TELEMETRY;
 use refusal::Refusal;
 
-// The channel's first and third character, and the two numbers: below 632,736 and 615,600 where they
-// are a message's.
+// The channel's first and third character, and the two numbers (01: A and B in basic telemetry): below
+// 632,736 and 615,600 where they are a message's.
 pub struct Numbers {
     pub first: u8,
     pub third: u8,
@@ -46,7 +46,7 @@ pub fn write(numbers: Numbers, callsign: &mut [u8], locator: &mut [u8]) -> u32
 
 // The numbers of a message.
 pub fn read(callsign: &[u8], locator: &[u8], power: u32) -> Carried
-    ensures { λ r. ⌜ r ≡ carried (now (callsign .entry)) (now (locator .entry)) power ⌝ }
+    ensures answer { λ r. ⌜ r ≡ carried (now (callsign .entry)) (now (locator .entry)) power ⌝ }
 {
     let checked = message::check(callsign, locator, power);
     if let Checked::Refused(refusal) = checked {

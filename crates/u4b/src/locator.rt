@@ -17,10 +17,10 @@ pub(crate) fn write_locator(lower: u64, locator: &mut [u8]) -> u32
     ensures its_power { λ r. ⌜ r ≡ powerWith lower ⌝ }
     ensures its_locator { λ _. ⌜ now (locator .exit) ≡ locatorWith lower ⌝ }
 {
-    let mut s = [0u64; 5];
-    radix::unpack(lower, &LOWER_RADICES, &mut s);
-    write_characters(6, &[s[0], s[1], s[2], s[3]], locator);
-    power::power_at(s[4] as u32)
+    let mut digits = [0u64; 5];
+    radix::unpack(lower, &LOWER_RADICES, &mut digits);
+    write_characters(6, &[digits[0], digits[1], digits[2], digits[3]], locator);
+    power::power_at(digits[4] as u32)
 }
 
 // The lower number in a locator and a power.

@@ -17,7 +17,7 @@ use borrow.Author.Needs.{needs}
 use Rattle.telemetry.proofs.write.Statement.{statement}
 use Rattle.telemetry.proofs.write.Tie as tie
 use Rattle.message.proofs.right_lengths.Reads as right-lengths-reads
-use Rattle.telemetry.proofs.codes.numbers_of.Reads as numbers-of-reads
+use Rattle.telemetry.proofs.codes.numbers_from.Reads as numbers-from-reads
 use Rattle.telemetry.proofs.range.first_out_of_range.Reads as first-out-of-range-reads
 use Rattle.u4b.proofs.write.Reads as write-reads
 
@@ -49,8 +49,8 @@ returns-2 c =
     (written-measured (a .callsign .now) (a .locator .now) (a .measured) (right e)
     ∙ measured-range (a .measured) _ (sym (c .before .first-out-of-range .ensures)) (c .if2 .taken))
 
-numbers-of-requires : tie.Need-numbers-of-requires
-numbers-of-requires c κs = none-out-of-range _ (its-range c)
+numbers-from-requires : tie.Need-numbers-from-requires
+numbers-from-requires c κs = none-out-of-range _ (its-range c)
 
 write-requires : tie.Need-write-requires
 unfolding numbersFrom
@@ -59,7 +59,7 @@ write-requires c κs =
     let e = n .before in
     let a = e .before .before .before .before .before .before .args in
     let lengths = lengths-of-right (a .callsign .now) (a .locator .now) (right (e .before .before)) in
-    rw (n .numbers-of .ensures) (lengths .0, (lengths .1, (its-range e .first, its-range e .third)))
+    rw (n .numbers-from .ensures) (lengths .0, (lengths .1, (its-range e .first, its-range e .third)))
 
 same-length : tie.Need-same-length
 same-length c = search needs
@@ -75,7 +75,7 @@ returns-3 c =
     let e = n .before in
     let a = e .before .before .before .before .before .before .args in
     let done = measured-power (a .measured) (omega (arith, e .before .first-out-of-range .ensures)) in
-    rw (w .write .ensures .0, w .write .ensures .1 .0, w .write .ensures .1 .1, n .numbers-of .ensures)
+    rw (w .write .ensures .0, w .write .ensures .1 .0, w .write .ensures .1 .1, n .numbers-from .ensures)
     (write-done (a .callsign .now) (a .locator .now) (a .measured) _ (right (e .before .before)) done)
 
 pub write-spec : {M : Type 1} → statement M
@@ -86,7 +86,7 @@ write-spec =
     returns
     first-out-of-range-requires
     returns-2
-    numbers-of-requires
+    numbers-from-requires
     write-requires
     same-length
     same-length-2

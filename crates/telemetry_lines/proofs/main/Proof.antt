@@ -1,7 +1,7 @@
 -- `telemetry_lines::main` is safe and ends: the output of each part is written from within the buffer.
 -- Assumes nothing.
-use borrow.Author.Needs.{needs}
 use Rattle.telemetry_lines.proofs.PutLaws.{put-count}
+use borrow.Author.Needs.{needs}
 use Rattle.telemetry_lines.proofs.main.Statement.{statement}
 use Rattle.telemetry_lines.proofs.main.Tie as tie
 
@@ -22,6 +22,9 @@ slice-aggregate-write-all c = put-count (c .before .before .put-header .ensures)
 
 write-all-requires : tie.Need-write-all-requires
 write-all-requires c κs = search needs
+
+returns : tie.Need-returns
+returns c = search needs
 
 slice-aggregate-answer-lines : tie.Need-slice-aggregate-answer-lines
 slice-aggregate-answer-lines c = search needs
@@ -47,8 +50,8 @@ slice-aggregate-write-all-2 c = put-count (c .before .before .answer-last .ensur
 write-all-requires-2 : tie.Need-write-all-requires-2
 write-all-requires-2 c κs = search needs
 
-returns : tie.Need-returns
-returns c = search needs
+returns-2 : tie.Need-returns-2
+returns-2 c = search needs
 
 pub main-spec : {M : Type 1} → statement M
 main-spec =
@@ -60,6 +63,7 @@ main-spec =
     array-share-prefix-out
     slice-aggregate-write-all
     write-all-requires
+    returns
     slice-aggregate-answer-lines
     slice-aggregate-answer-lines-2
     answer-lines-requires
@@ -68,4 +72,4 @@ main-spec =
     array-share-prefix-out-2
     slice-aggregate-write-all-2
     write-all-requires-2
-    returns)
+    returns-2)

@@ -2,7 +2,7 @@
 -- Assumes nothing.
 use borrow.Author.Needs.{needs}
 use Rattle.basics.specs.Ascii.{bytes}
-use Rattle.telemetry_lines.specs.Text.{header}
+use Rattle.telemetry_lines.specs.Text.{lineOf, header}
 use Rattle.telemetry_lines.proofs.output.put_header.Statement.{statement}
 use Rattle.telemetry_lines.proofs.output.put_header.Tie as tie
 
@@ -16,7 +16,7 @@ same-length : tie.Need-same-length
 same-length c = search needs
 
 returns : tie.Need-returns
-unfolding header bytes
+unfolding lineOf header bytes
 returns c = c .before .before .put .ensures
 
 pub put-header-spec : {M : Type 1} → statement M

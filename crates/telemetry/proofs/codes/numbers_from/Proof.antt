@@ -1,9 +1,9 @@
--- `telemetry::codes::numbers_of` meets its contract: the two numbers are those of the definition.
+-- `telemetry::codes::numbers_from` meets its contract: the two numbers are those of the definition.
 -- Assumes nothing.
 use borrow.Author.Needs.{needs}
 use Rattle.telemetry.specs.Numbers.{numbersFrom}
-use Rattle.telemetry.proofs.codes.numbers_of.Statement.{statement}
-use Rattle.telemetry.proofs.codes.numbers_of.Tie as tie
+use Rattle.telemetry.proofs.codes.numbers_from.Statement.{statement}
+use Rattle.telemetry.proofs.codes.numbers_from.Tie as tie
 use Rattle.telemetry.proofs.codes.position_number.Reads as position-number-reads
 use Rattle.telemetry.proofs.codes.sensor_number.Reads as sensor-number-reads
 
@@ -17,5 +17,5 @@ returns : tie.Need-returns
 unfolding numbersFrom
 returns c = rw (c .before .position-number .ensures, c .sensor-number .ensures)
 
-pub numbers-of-spec : {M : Type 1} → statement M
-numbers-of-spec = tie.close (tie.spec position-number-requires sensor-number-requires returns)
+pub numbers-from-spec : {M : Type 1} → statement M
+numbers-from-spec = tie.close (tie.spec position-number-requires sensor-number-requires returns)
