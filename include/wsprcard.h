@@ -7,7 +7,8 @@
  *
  * A buffer is a pointer and its length: `callsign` and `callsign_len`, `locator` and `locator_len`,
  * `frame` and `frame_len`. That many bytes must be there. NULL with length 0 is an empty buffer.
- * Buffers lent to one call must not overlap.
+ * Buffers lent to one call must not overlap. Callsign and locator have no terminating zero: none is
+ * counted in a length, and none is written.
  *
  *   refusal                                                      place
  *   1  a buffer hasn't its exact length (callsign 6, locator 4,  0
@@ -40,7 +41,8 @@
  * A frame is one byte a symbol, each 0 to 3, in the order in which they are sent.
  *
  * Telemetry comes as a message. The callsign's places 0 and 2, its first and third character, name
- * the channel. The number A, of sub-square and altitude, has its digits in places 1, 3, 4 and 5, with
+ * the channel. The message that u4b_write gives goes to wspr_write_message, and one that
+ * wspr_read_message gives goes to u4b_read. The number A, of sub-square and altitude, has its digits in places 1, 3, 4 and 5, with
  * radices 36, 26, 26, 26. The number B, of temperature, voltage, speed and GPS, has its digits in
  * places 6 to 9 and in the power's index, its place from 0 in the list above, with radices 18, 18, 10,
  * 10, 19. The highest digit comes first. At place 1 the digits count 0 to 9 and the letters 10 to 35;

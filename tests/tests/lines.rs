@@ -1,6 +1,9 @@
 // The program telemetry_lines, run as a child process: its whole output against that of the
 // independent implementation, on legal, damaged and arbitrary lines.
+use std::fs::File;
 use std::io::{Read, Write};
+use std::os::fd::OwnedFd;
+use std::os::unix::net::UnixStream;
 use std::path::{Path, PathBuf};
 use std::process::{Child, ChildStdin, Command, Stdio};
 use std::sync::mpsc;
@@ -15,7 +18,7 @@ use wsprcard_tests::rng::Rng;
 
 /// How long the program may take and how much it may print before it is stopped. No input here
 /// needs nearly as much.
-const PATIENCE: Duration = Duration::from_secs(60);
+const TIME_LIMIT: Duration = Duration::from_secs(60);
 const MOST_OUTPUT: u64 = 1 << 27;
 
 /// The bench sheet's line, and its answer.
@@ -29,6 +32,14 @@ fn program() -> PathBuf {
     path
 }
 
+fn start(stdin: Stdio, stdout: Stdio) -> Child {
+    Command::new(program())
+        .stdin(stdin)
+        .stdout(stdout)
+        .spawn()
+        .unwrap_or_else(|error| panic!("telemetry_lines was not started: {error}"))
+}
+
 /// The program's whole output for this input.
 fn run(input: &[u8]) -> Vec<u8> {
     run_in_pieces(input, input.len().max(1), Duration::ZERO)
@@ -37,11 +48,7 @@ fn run(input: &[u8]) -> Vec<u8> {
 /// The same, where the input is written in pieces of this many bytes, with a pause after each
 /// so that the program reads them apart.
 fn run_in_pieces(input: &[u8], piece_len: usize, pause: Duration) -> Vec<u8> {
-    let mut child = Command::new(program())
-        .stdin(Stdio::piped())
-        .stdout(Stdio::piped())
-        .spawn()
-        .unwrap_or_else(|error| panic!("telemetry_lines was not started: {error}"));
+    let mut child = start(Stdio::piped(), Stdio::piped());
     let writer = write_to(child.stdin.take().unwrap(), input.to_vec(), piece_len, pause);
     let output = output_of(&mut child);
     writer.join().expect("the whole input is read");
@@ -75,7 +82,7 @@ fn output_of(child: &mut Child) -> Vec<u8> {
         let read = stdout.read_to_end(&mut output);
         sender.send(read.map(|_| output))
     });
-    match receiver.recv_timeout(PATIENCE) {
+    match receiver.recv_timeout(TIME_LIMIT) {
         Ok(Ok(output)) if output.len() < MOST_OUTPUT as usize => output,
         _ => {
             child.kill().unwrap();
@@ -432,7 +439,7 @@ fn arbitrary_bytes_are_answered() {
     for turn in 0..400 {
         let len = rng.below(200) as usize;
         let mut input = rng.bytes(len);
-        sprinkle_newlines(&mut rng, &mut input, 2 + turn % 30);
+        put_newlines(&mut rng, &mut input, 2 + turn % 30);
         check(&input);
     }
 }
@@ -442,13 +449,13 @@ fn many_arbitrary_bytes_are_answered() {
     let mut rng = Rng::new(4);
     for one_in in [2, 15, 100, 5_000, 200_000] {
         let mut input = rng.bytes(1 << 20);
-        sprinkle_newlines(&mut rng, &mut input, one_in);
+        put_newlines(&mut rng, &mut input, one_in);
         check(&input);
     }
 }
 
 /// Puts a newline in the place of one byte in so many.
-fn sprinkle_newlines(rng: &mut Rng, input: &mut [u8], one_in: u64) {
+fn put_newlines(rng: &mut Rng, input: &mut [u8], one_in: u64) {
     for byte in input {
         if rng.below(one_in) == 0 {
             *byte = b'\n';
@@ -481,4 +488,58 @@ fn a_mebibyte_takes_under_a_second() {
     let best = times.min().unwrap();
     println!("{} bytes in {best:?}", input.len());
     assert!(best < Duration::from_secs(1), "{} bytes took {best:?}", input.len());
+}
+
+// Streams that fail
+
+/// The program's whole output where its input comes from this stream.
+fn text_from(stdin: OwnedFd) -> String {
+    let mut child = start(Stdio::from(stdin), Stdio::piped());
+    let output = output_of(&mut child);
+    let status = child.wait().unwrap();
+    assert!(status.success(), "telemetry_lines ended with {status}");
+    String::from_utf8_lossy(&output).into_owned()
+}
+
+/// A read that fails is no end of a line: the rest of it may be to come.
+#[test]
+fn a_line_that_is_not_read_to_its_end_gets_no_answer() {
+    for begun in [&b""[..], b"x", LINE] {
+        let (mut sender, receiver) = UnixStream::pair().unwrap();
+        receiver.set_nonblocking(true).unwrap();
+        sender.write_all(&[LINE, b"\n", begun].concat()).unwrap();
+        let output = text_from(receiver.into());
+        assert_eq!(output, [HEADER, ANSWER].concat(), "begun: {}", begun.escape_ascii());
+    }
+}
+
+/// At the end of the same stream the line is a line.
+#[test]
+fn a_line_at_the_end_of_a_stream_is_answered() {
+    let (mut sender, receiver) = UnixStream::pair().unwrap();
+    sender.write_all(LINE).unwrap();
+    drop(sender);
+    assert_eq!(text_from(receiver.into()), [HEADER, ANSWER].concat());
+}
+
+#[test]
+fn an_input_that_can_not_be_read_gives_the_header_alone() {
+    let directory = File::open(env!("CARGO_MANIFEST_DIR")).unwrap();
+    assert_eq!(text_from(directory.into()), HEADER);
+}
+
+/// The input is one endless line: only what can't be written can end the program.
+#[test]
+fn the_program_ends_where_its_output_can_not_be_written() {
+    let endless = File::open("/dev/zero").unwrap();
+    let full = File::options().write(true).open("/dev/full").unwrap();
+    let mut child = start(Stdio::from(endless), Stdio::from(full));
+    let began = Instant::now();
+    while child.try_wait().unwrap().is_none() {
+        if began.elapsed() > TIME_LIMIT {
+            child.kill().unwrap();
+            panic!("telemetry_lines reads on, though nothing can be written");
+        }
+        thread::sleep(Duration::from_millis(10));
+    }
 }
