@@ -41,12 +41,12 @@
  * A frame is one byte a symbol, each 0 to 3, in the order in which they are sent.
  *
  * Telemetry comes as a message. The callsign's places 0 and 2, its first and third character, name
- * the channel. The message that u4b_write gives goes to wspr_write_message, and one that
- * wspr_read_message gives goes to u4b_read. The number A, of sub-square and altitude, has its digits in places 1, 3, 4 and 5, with
+ * the channel. The number A, of sub-square and altitude, has its digits in places 1, 3, 4 and 5, with
  * radices 36, 26, 26, 26. The number B, of temperature, voltage, speed and GPS, has its digits in
  * places 6 to 9 and in the power's index, its place from 0 in the list above, with radices 18, 18, 10,
  * 10, 19. The highest digit comes first. At place 1 the digits count 0 to 9 and the letters 10 to 35;
- * at the other places letters and digits count from 0.
+ * at the other places letters and digits count from 0. The message that u4b_write gives goes to
+ * wspr_write_message, and one that wspr_read_message gives goes to u4b_read.
  */
 #ifndef WSPRCARD_H
 #define WSPRCARD_H
