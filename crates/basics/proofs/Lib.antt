@@ -1,6 +1,8 @@
 -- `Choice`: tests, and how the cases of a definition that tests and refuses are told apart. `Tables`: a rule of every entry.
--- `Filling`: a loop that fills a list. `ListLaws`: lists by their places.
+-- `Filling`: a loop that fills a list. `ListLaws`: lists by their places. `BelowLaws`: sums, counts and least values over the numbers
+-- below n.
 pub mod Choice
 pub mod Tables
 pub mod Filling
 pub mod ListLaws
+pub mod BelowLaws

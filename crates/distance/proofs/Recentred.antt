@@ -1,0 +1,118 @@
+-- The live prefixes around a sent word depend on the flips alone: they are as many as those around the zero word with the same flips. And
+-- with d flips those within a limit are at most those of the unflipped frame within the limit plus d.
+use mathlib.Core.Path.{_≡_, refl, sym, ap, ap₂, _∙_}
+use Prim.Native.Nat.{ℕ, _+_, _-_, _*_, _/_, _^_, _≤_, _<_, min}
+use native.Mathlib.Omega.{arith}
+use mathlib.Core.Bool.{Bool, true}
+use mathlib.Core.List.{List, [], _∷_, _++_}
+use lib.Dec.{leb}
+use lib.ListN.{length, take, drop, replicate, length-append, take-append-drop}
+use borrow.Author.Tests.{le-leb, leb-true}
+use Rattle.basics.specs.Below.{sumBelow, countBelow}
+use Rattle.basics.proofs.BelowLaws.{sum-same, sum-le, count-le}
+use Rattle.convolution.specs.Code.{bitsOf, clockedBits, codedFrom, codedBits}
+use Rattle.convolution.proofs.CodeLaws.{length-bitsOf, length-codedFrom, length-codedBits}
+use Rattle.distance.specs.Prefixes.{prefixBits, prefixesOf, differences, disagreements, isLive, liveOf, liveCount}
+use Rattle.distance.proofs.Bits.{AllBits, bits-append, bits-zeros, bits-bitsOf, summed, summed-append, summed-zeros, summed-unchanged, triangle, differences-summed}
+use Rattle.distance.proofs.BitCounts.{countBits, countBits-same, count-by-bits, countBits-summed}
+use Rattle.distance.proofs.Linear.{codedFrom-sum}
+use Rattle.distance.proofs.PrefixLaws.{length-prefixBits, prefix-of-word, registerAfter, codedFrom-append, bits-codedFrom}
+
+-- ---- Around a sent word
+
+module _ (word : ℕ) (flips : List ℕ) (are-bits : AllBits flips) where
+  -- What is received: the word's coded bits, with the flips added.
+  abbrev received : List ℕ
+  received = summed (codedBits word) flips
+
+  -- A prefix added to the sent one disagrees with what is received as it does by itself with the flips.
+  disagreements-recentred : (sent rest bits : List ℕ) → clockedBits word ≡ sent ++ rest → length bits ≡ length sent → AllBits sent → AllBits bits
+      → disagreements received (summed bits sent) ≡ disagreements flips bits
+  unfolding disagreements codedBits
+  disagreements-recentred sent rest bits split same h k =
+      let later = codedFrom (registerAfter 0 sent) (registerAfter 0 sent) rest in
+      let own = codedFrom 0 0 bits in
+      let theirs = codedFrom 0 0 sent in
+      let size : length own ≡ length theirs = omega (arith, length-codedFrom 0 0 bits, length-codedFrom 0 0 sent) in
+      rw (split, codedFrom-append 0 0 sent rest, codedFrom-sum 0 0 0 0 bits sent k h)
+      (differences-summed own theirs later flips size (bits-codedFrom 0 0 bits) (bits-codedFrom 0 0 sent) are-bits)
+
+  prefix-recentred : (k : ℕ) (bits : List ℕ) → k ≤ 81 → length bits ≡ min k 50 → AllBits bits
+      → disagreements received (summed bits (bitsOf (min k 50) (word / 2 ^ (50 - k))) ++ replicate (k - 50) 0)
+      ≡ disagreements flips (bits ++ replicate (k - 50) 0)
+  unfolding prefixBits
+  prefix-recentred k bits h e b =
+      let zeros : List ℕ = replicate (k - 50) 0 in
+      let first = bitsOf (min k 50) (word / 2 ^ (50 - k)) in
+      let sent = first ++ zeros in
+      let first-size : length first ≡ min k 50 = length-bitsOf (min k 50) (word / 2 ^ (50 - k)) in
+      let split : clockedBits word ≡ sent ++ drop k (clockedBits word) =
+          sym (take-append-drop k (clockedBits word)) ∙ ap (λ (xs : List ℕ). xs ++ drop k (clockedBits word)) (prefix-of-word k word h) in
+      let same : length (bits ++ zeros) ≡ length sent = omega (arith, length-append bits zeros, length-append first zeros) in
+      let sent-bits : AllBits sent = bits-append first zeros (bits-bitsOf (min k 50) (word / 2 ^ (50 - k))) (bits-zeros (k - 50)) in
+      let apart : summed (bits ++ zeros) sent ≡ summed bits first ++ zeros =
+          summed-append bits first zeros zeros (omega arith) ∙ ap (λ (xs : List ℕ). summed bits first ++ xs) (summed-zeros (k - 50)) in
+      ap (disagreements received) (sym apart)
+      ∙ disagreements-recentred sent (drop k (clockedBits word)) (bits ++ zeros) split same sent-bits (bits-append bits zeros b (bits-zeros (k - 50)))
+
+  pub liveOf-recentred : (limit k : ℕ) → k ≤ 81 → liveOf received limit k ≡ liveOf flips limit k
+  unfolding liveOf prefixesOf prefixBits isLive
+  liveOf-recentred limit k h =
+      let m = min k 50 in
+      let zeros : List ℕ = replicate (k - 50) 0 in
+      let sent = bitsOf m (word / 2 ^ (50 - k)) in
+      let live : List ℕ → List ℕ → Bool = λ r bits. isLive r limit (bits ++ zeros) in
+      count-by-bits m (live received)
+      ∙ sym (countBits-summed m (live received) sent (length-bitsOf m (word / 2 ^ (50 - k))) (bits-bitsOf m (word / 2 ^ (50 - k))))
+      ∙ countBits-same m (λ bits. live received (summed bits sent)) (live flips)
+      (λ bits e b. ap (λ (d : ℕ). leb d limit) (prefix-recentred k bits h e b))
+      ∙ sym (count-by-bits m (live flips))
+
+  pub liveCount-recentred : (limit : ℕ) → liveCount received limit ≡ liveCount flips limit
+  unfolding liveCount
+  liveCount-recentred limit =
+      sum-same 81 (λ i. liveOf received limit (i + 1)) (λ i. liveOf flips limit (i + 1)) (λ i h. liveOf-recentred limit (i + 1) (omega arith))
+
+-- ---- No flips
+
+-- A word's own coded bits count as those of the zero word do, which are zeros.
+abbrev pub zeroBits : List ℕ
+zeroBits = replicate 162 0
+
+own-bits : (word : ℕ) → summed (codedBits word) zeroBits ≡ codedBits word
+unfolding codedBits
+own-bits word = summed-unchanged 162 (codedBits word) (bits-codedFrom 0 0 (clockedBits word)) (omega (arith, length-codedBits word))
+
+pub liveOf-clean : (word limit k : ℕ) → k ≤ 81 → liveOf (codedBits word) limit k ≡ liveOf zeroBits limit k
+liveOf-clean word limit k h =
+    ap (λ (r : List ℕ). liveOf r limit k) (sym (own-bits word)) ∙ liveOf-recentred word zeroBits (bits-zeros 162) limit k h
+
+pub liveCount-clean : (word limit : ℕ) → liveCount (codedBits word) limit ≡ liveCount zeroBits limit
+liveCount-clean word limit =
+    ap (λ (r : List ℕ). liveCount r limit) (sym (own-bits word)) ∙ liveCount-recentred word zeroBits (bits-zeros 162) limit
+
+-- ---- Some flips
+
+-- With d flips, what is live within a limit is live within the limit plus d where nothing is flipped.
+module _ (word : ℕ) (received : List ℕ) (long : length received ≡ 162) where
+  live-unflipped : (limit k number : ℕ) → k ≤ 81 → isLive received limit (prefixBits k number) ≡ true
+      → isLive (codedBits word) (limit + differences received (codedBits word)) (prefixBits k number) ≡ true
+  unfolding isLive disagreements
+  live-unflipped limit k number h e =
+      let bits = prefixBits k number in
+      let size : length (codedFrom 0 0 bits) ≤ length received = omega (arith, length-codedFrom 0 0 bits, length-prefixBits k number) in
+      le-leb (differences (codedFrom 0 0 bits) (codedBits word)) (limit + differences received (codedBits word))
+      (omega (arith, triangle (codedFrom 0 0 bits) received (codedBits word) size, leb-true (differences (codedFrom 0 0 bits) received) limit e))
+
+  pub liveOf-flipped : (limit k : ℕ) → k ≤ 81 → liveOf received limit k ≤ liveOf (codedBits word) (limit + differences received (codedBits word)) k
+  unfolding liveOf
+  liveOf-flipped limit k h =
+      count-le (prefixesOf k) (λ number. isLive received limit (prefixBits k number))
+      (λ number. isLive (codedBits word) (limit + differences received (codedBits word)) (prefixBits k number))
+      (λ number below e. live-unflipped limit k number h e)
+
+  pub liveCount-flipped : (limit : ℕ) → liveCount received limit ≤ liveCount (codedBits word) (limit + differences received (codedBits word))
+  unfolding liveCount
+  liveCount-flipped limit =
+      sum-le 81 (λ i. liveOf received limit (i + 1)) (λ i. liveOf (codedBits word) (limit + differences received (codedBits word)) (i + 1))
+      (λ i h. liveOf-flipped limit (i + 1) (omega arith))

@@ -1,0 +1,45 @@
+-- Prefixes of the clocked bits, their disagreements with the received data bits, and the live count (01, 'Repair'). `received` stands for
+-- the received data bits in S order.
+use Prim.Native.Nat.{ℕ, _+_, _-_, _^_, min}
+use mathlib.Core.Bool.{Bool, cond}
+use mathlib.Core.List.{List, [], _∷_, _++_}
+use lib.Dec.{eqb, leb}
+use lib.ListN.{replicate}
+use Rattle.basics.specs.Below.{sumBelow, countBelow}
+use Rattle.convolution.specs.Code.{bitsOf, codedFrom}
+
+-- "A prefix is the first k of the 81 clocked bits, k from 1 to 81, with every bit after the fiftieth zero." Its bits up to the fiftieth
+-- are those of a number, so that the prefixes of k bits are numbered from 0 on.
+unfoldable pub prefixBits : ℕ → ℕ → List ℕ
+prefixBits k number = bitsOf (min k 50) number ++ replicate (k - 50) 0
+
+-- How many prefixes of k bits there are.
+unfoldable pub prefixesOf : ℕ → ℕ
+prefixesOf k = 2 ^ min k 50
+
+-- In how many of the places that both lists have they differ: the Hamming distance.
+unfoldable pub differences : List ℕ → List ℕ → ℕ
+differences [] ys = 0
+differences (x ∷ xs) [] = 0
+differences (x ∷ xs) (y ∷ ys) = cond (eqb x y) 0 1 + differences xs ys
+
+-- "Its disagreements are the number of its 2k coded bits that differ from the received data bits"
+unfoldable pub disagreements : List ℕ → List ℕ → ℕ
+disagreements received bits = differences (codedFrom 0 0 bits) received
+
+-- "The disagreements of a word, any number below 2^50, are those of its prefix of 81 bits."
+unfoldable pub wordDisagreements : List ℕ → ℕ → ℕ
+wordDisagreements received word = disagreements received (prefixBits 81 word)
+
+-- "A prefix is live if its disagreements are at most the limit."
+unfoldable pub isLive : List ℕ → ℕ → List ℕ → Bool
+isLive received limit bits = leb (disagreements received bits) limit
+
+-- How many prefixes of k bits are live.
+unfoldable pub liveOf : List ℕ → ℕ → ℕ → ℕ
+liveOf received limit k = countBelow (prefixesOf k) (λ number. isLive received limit (prefixBits k number))
+
+-- "The live count is the number of live prefixes over all k together, those of different lengths counted separately; the empty prefix
+-- isn't counted." So k goes from 1 to 81.
+unfoldable pub liveCount : List ℕ → ℕ → ℕ
+liveCount received limit = sumBelow 81 (λ shorter. liveOf received limit (shorter + 1))
