@@ -37,6 +37,12 @@ unfolding sumBelow
 sum-append m zero f = rw (add-zero m, add-zero (sumBelow m f))
 sum-append m (suc n) f = rw (add-suc m n) (omega (arith, sum-append m n f))
 
+-- The first, and those after it.
+pub sum-first : (n : ℕ) (f : ℕ → ℕ) → sumBelow (suc n) f ≡ f 0 + sumBelow n (λ i. f (suc i))
+unfolding sumBelow
+sum-first zero f = omega arith
+sum-first (suc n) f = omega (arith, sum-first n f)
+
 -- A sum of sums, in either order.
 pub sum-swap : (m n : ℕ) (f : ℕ → ℕ → ℕ) → sumBelow m (λ i. sumBelow n (λ j. f i j)) ≡ sumBelow n (λ j. sumBelow m (λ i. f i j))
 unfolding sumBelow

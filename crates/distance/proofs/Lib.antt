@@ -5,3 +5,5 @@ pub mod Linear
 pub mod BitCounts
 pub mod PrefixLaws
 pub mod Recentred
+pub mod Tree
+pub mod ZeroWord
