@@ -105,9 +105,18 @@ pub count-append : (m n : ℕ) (t : ℕ → Bool) → countBelow (m + n) t ≡ c
 unfolding countBelow
 count-append m n t = sum-append m n (λ i. cond (t i) 1 0)
 
+pub count-first : (n : ℕ) (t : ℕ → Bool) → countBelow (suc n) t ≡ cond (t 0) 1 0 + countBelow n (λ i. t (suc i))
+unfolding countBelow
+count-first n t = sum-first n (λ i. cond (t i) 1 0)
+
 pub count-of-one : (t : ℕ → Bool) → countBelow 1 t ≡ cond (t 0) 1 0
 unfolding countBelow sumBelow
 count-of-one t = zero-add (cond (t 0) 1 0)
+
+pub count-reordered : (n : ℕ) (f g : ℕ → ℕ) → ((i : ℕ) → i < n → f i < n) → ((i : ℕ) → i < n → g (f i) ≡ i)
+    → ((j : ℕ) → j < n → g j < n) → ((j : ℕ) → j < n → f (g j) ≡ j) → (t : ℕ → Bool) → countBelow n (λ i. t (f i)) ≡ countBelow n t
+unfolding countBelow
+count-reordered n f g f-below g-f g-below f-g t = sum-reordered n f g f-below g-f g-below f-g (λ i. cond (t i) 1 0)
 
 count-last : (n : ℕ) (t : ℕ → Bool) → t n ≡ true → countBelow (suc n) t ≡ countBelow n t + 1
 unfolding countBelow sumBelow
@@ -170,11 +179,6 @@ least-below (suc n) f i h =
     equal-or-not i (suc n)
     (λ last. rw last (omega arith))
     (λ before. omega (arith, least-below n f i (omega arith)))
-
-pub least-above : (n m : ℕ) (f : ℕ → ℕ) → ((i : ℕ) → i ≤ n → m ≤ f i) → m ≤ leastUpTo n f
-unfolding leastUpTo
-least-above zero m f h = h 0 (omega arith)
-least-above (suc n) m f h = omega (arith, least-above n m f (λ i k. h i (omega arith)), h (suc n) (omega arith))
 
 -- It is the value of one of them.
 pub least-reached : (n : ℕ) (f : ℕ → ℕ) → (i : ℕ) × ((i ≤ n) × (f i ≡ leastUpTo n f))

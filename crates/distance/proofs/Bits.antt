@@ -1,13 +1,15 @@
 -- Lists of bits: their sums modulo 2, and in how many places they differ.
-use mathlib.Core.Path.{_≡_, refl, sym, ap, _∙_}
+use mathlib.Core.Path.{_≡_, refl, sym, ap, ap₂, _∙_}
 use Prim.Native.Nat.{ℕ, zero, suc, _+_, _%_, _≤_, _<_}
 use native.Mathlib.Nat.{mod-lt}
 use native.Mathlib.Omega.{arith}
-use mathlib.Core.Bool.{Bool, true, false, cond}
+use mathlib.Core.Bool.{Bool, true, false, cond, not}
 use mathlib.Core.List.{List, [], _∷_, _++_}
 use lib.Dec.{eqb}
-use lib.ListN.{length, take, replicate}
+use lib.ListN.{length, getD, take, replicate}
 use borrow.Author.Tests.{eq-eqb, ne-eqb}
+use Rattle.basics.specs.Below.{countBelow}
+use Rattle.basics.proofs.BelowLaws.{count-first, count-none}
 use Rattle.basics.proofs.Choice.{equal-or-not}
 use Rattle.radix.specs.Numeral.{Digits}
 use Rattle.convolution.specs.Code.{bitsOf}
@@ -132,6 +134,11 @@ differences-sym [] (y ∷ ys) = refl
 differences-sym (x ∷ xs) [] = refl
 differences-sym (x ∷ xs) (y ∷ ys) = rw (unlike-sym x y, differences-sym xs ys)
 
+pub differences-none : (xs : List ℕ) → differences xs xs ≡ 0
+unfolding differences
+differences-none [] = refl
+differences-none (x ∷ xs) = rw (alike x x refl, differences-none xs)
+
 -- The triangle inequality, for a list in the middle that is long enough.
 pub triangle : (xs ys zs : List ℕ) → length xs ≤ length ys → differences xs zs ≤ differences xs ys + differences ys zs
 unfolding differences
@@ -157,3 +164,20 @@ unfolding differences
 differences-grow [] more ys = omega arith
 differences-grow (x ∷ xs) more [] = omega arith
 differences-grow (x ∷ xs) more (y ∷ ys) = omega (arith, differences-grow xs more ys)
+
+-- They are counted by places.
+pub differences-counted : (n : ℕ) (xs ys : List ℕ) → length xs ≡ n → length ys ≡ n
+    → differences xs ys ≡ countBelow n (λ i. not (eqb (getD xs i 0) (getD ys i 0)))
+unfolding differences
+differences-counted zero [] [] e f = sym (count-none 0 (λ i. not (eqb 0 0)) (λ i h. absurd (omega arith)))
+differences-counted zero [] (y ∷ ys) e f = absurd (omega arith)
+differences-counted zero (x ∷ xs) ys e f = absurd (omega arith)
+differences-counted (suc n) [] ys e f = absurd (omega arith)
+differences-counted (suc n) (x ∷ xs) [] e f = absurd (omega arith)
+differences-counted (suc n) (x ∷ xs) (y ∷ ys) e f =
+    ap₂ (λ (a b : ℕ). a + b) (sym (cond-not (eqb x y))) (differences-counted n xs ys (omega arith) (omega arith))
+    ∙ sym (count-first n (λ i. not (eqb (getD (x ∷ xs) i 0) (getD (y ∷ ys) i 0))))
+  where
+    cond-not : (t : Bool) → cond {A = ℕ} (not t) 1 0 ≡ cond t 0 1
+    cond-not true = refl
+    cond-not false = refl

@@ -7,3 +7,4 @@ pub mod PrefixLaws
 pub mod Recentred
 pub mod Tree
 pub mod ZeroWord
+pub mod NearestLaws

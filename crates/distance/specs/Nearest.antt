@@ -1,5 +1,6 @@
 -- The nearest word: "the one with the fewest disagreements of all 2^50" (01, 'Repair').
-use Prim.Native.Nat.{ℕ, _-_, _^_}
+use Prim.Native.Nat.{ℕ, _-_, _^_, _<_}
+use mathlib.Core.Path.{_≡_}
 use mathlib.Core.Bool.{Bool}
 use mathlib.Core.List.{List}
 use lib.Dec.{eqb}
@@ -21,3 +22,8 @@ sharing received = countBelow (2 ^ 50) (hasFewest received)
 -- The word that has them, where only one does.
 unfoldable pub nearest : List ℕ → ℕ
 nearest received = lastBelow (2 ^ 50) (hasFewest received)
+
+-- "every other 50-bit word has more disagreements"
+abbrev pub OnlyNearest : List ℕ → ℕ → Type 0
+OnlyNearest received word =
+    (word < 2 ^ 50) × ((other : ℕ) → other < 2 ^ 50 → (other ≡ word → ⊥) → wordDisagreements received word < wordDisagreements received other)

@@ -60,3 +60,19 @@ badSensorNumber = 13
 -- "a telemetry input is out of range"; its place is the first such, 0 to 8
 abbrev pub outOfRange : ℕ
 outOfRange = 14
+
+-- "limit above 12, or budget 0 or above 65,536"; its place is 0 or 1
+abbrev pub badBound : ℕ
+badBound = 15
+
+-- "live count above budget"
+abbrev pub overBudget : ℕ
+overBudget = 16
+
+-- "no word within the limit"
+abbrev pub noneWithinLimit : ℕ
+noneWithinLimit = 17
+
+-- "two or more words share the fewest disagreements"
+abbrev pub sharedFewest : ℕ
+sharedFewest = 18

@@ -35,3 +35,11 @@ pub const BAD_POSITION_NUMBER: u32 = 12;
 pub const BAD_SENSOR_NUMBER: u32 = 13;
 // In telemetry writing an input is out of range. Place: the first such, 0 to 8.
 pub const OUT_OF_RANGE: u32 = 14;
+// In repair the limit is above 12 (place 0), or the budget is 0 or above 65,536 (place 1).
+pub const BAD_BOUND: u32 = 15;
+// In repair the live count is above the budget.
+pub const OVER_BUDGET: u32 = 16;
+// In repair no word is within the limit.
+pub const NONE_WITHIN_LIMIT: u32 = 17;
+// In repair two or more words share the fewest disagreements.
+pub const SHARED_FEWEST: u32 = 18;

@@ -1,0 +1,76 @@
+-- Flipped data bits: counted in frame order they are the sent word's disagreements in S order; and two of them at most are healed.
+use mathlib.Core.Path.{_≡_, refl, sym, ap, ap₂, _∙_}
+use Prim.Native.Nat.{ℕ, _+_, _/_, _^_, _≤_, _<_}
+use native.Mathlib.Omega.{arith}
+use mathlib.Core.Bool.{Bool, not, cond}
+use mathlib.Core.List.{List}
+use lib.Dec.{eqb}
+use lib.ListN.{length, getD}
+use Rattle.basics.specs.Below.{countBelow}
+use Rattle.basics.proofs.BelowLaws.{count-same, count-reordered}
+use Rattle.convolution.specs.Code.{codedBits}
+use Rattle.convolution.proofs.CodeLaws.{length-codedBits}
+use Rattle.interleaver.specs.Places.{placeOf, orderOf}
+use Rattle.interleaver.proofs.PlaceLaws.{placeOf-below, orderOf-below, orderOf-placeOf, placeOf-orderOf}
+use Rattle.frame.specs.Symbols.{frameOf, receivedBits}
+use Rattle.frame.proofs.SymbolLaws.{length-receivedBits, getD-receivedBits, received-frameOf}
+use Rattle.distance.specs.Prefixes.{differences, wordDisagreements, liveCount}
+use Rattle.distance.specs.Nearest.{OnlyNearest}
+use Rattle.distance.proofs.Bits.{differences-sym, differences-counted}
+use Rattle.distance.proofs.PrefixLaws.{word-disagreements}
+use Rattle.distance.proofs.ZeroWord.{flipped-most, others-further}
+use Rattle.repair.specs.Answer.{unsyncedIn, repaired}
+use Rattle.repair.specs.Demand.{Symbols, Bounds, IsNearest, Demanded, dataAt, flips, sentWord, TwoFlipsHealed}
+use Rattle.repair.specs.declared.Nearest.{Nearest}
+use Rattle.repair.specs.declared.Repaired.{Repaired}
+use Rattle.repair.proofs.AnswerLaws.{demanded}
+
+module _ (word : ℕ) (frame : List ℕ) where
+  abbrev received : List ℕ
+  received = receivedBits frame
+
+  -- At the place of a coded bit stand the received one and the sent one.
+  received-there : (index : ℕ) → index < 162 → getD received index 0 ≡ dataAt frame (placeOf index)
+  unfolding dataAt
+  received-there index h = getD-receivedBits frame index h
+
+  sent-there : (index : ℕ) → index < 162 → getD (codedBits word) index 0 ≡ dataAt (frameOf word) (placeOf index)
+  unfolding dataAt
+  sent-there index h = ap (λ (bits : List ℕ). getD bits index 0) (sym (received-frameOf word)) ∙ getD-receivedBits (frameOf word) index h
+
+  pub flips-disagreements : flips word frame ≡ wordDisagreements received word
+  unfolding flips
+  flips-disagreements =
+      sym
+      (word-disagreements received word
+      ∙ differences-sym (codedBits word) received
+      ∙ differences-counted 162 received (codedBits word) (length-receivedBits frame) (length-codedBits word)
+      ∙ count-same 162 (λ i. not (eqb (getD received i 0) (getD (codedBits word) i 0))) (λ i. flipped (placeOf i))
+      (λ i h. ap₂ (λ (a b : ℕ). not (eqb a b)) (received-there i h) (sent-there i h))
+      ∙ count-reordered 162 placeOf orderOf placeOf-below orderOf-placeOf orderOf-below placeOf-orderOf flipped)
+    where
+      flipped : ℕ → Bool
+      flipped place = not (eqb (dataAt frame place) (dataAt (frameOf word) place))
+
+  -- ---- Two flips at most
+
+  module _ (h : word < 2 ^ 50) (few : flips word frame ≤ 2) where
+    live-most : liveCount received 2 ≤ 569
+    live-most = flipped-most received word 2 (length-receivedBits frame) (omega (arith, flips-disagreements))
+
+    -- Any other word is six or more from the sent one, so four or more from what was received.
+    others-more : OnlyNearest received word
+    others-more = (h, λ other k different. omega (arith, others-further received other word (length-receivedBits frame) k h different, flips-disagreements))
+
+    -- A budget from 569 on is enough.
+    pub healed : (budget : ℕ) → 569 ≤ budget → budget ≤ 65_536 → Symbols frame → repaired frame 2 budget ≡ sentWord word frame 2
+    unfolding sentWord
+    healed budget enough most form =
+        let bounds : Bounds 2 budget = record { limit-to-12 = omega arith; budget-from-1 = omega arith; budget-to-65536 = most } in
+        let sent : Nearest = record { word = word; disagreements = flips word frame; live = liveCount received 2; unsynced = unsyncedIn frame } in
+        demanded frame 2 budget form bounds .answered sent .1
+        (omega (arith, live-most),
+        record { only-nearest = others-more; its-disagreements = flips-disagreements; within-limit = few; live-count = refl; wrong-sync = refl })
+
+pub two-flips-healed : TwoFlipsHealed
+two-flips-healed word frame h form few = healed word frame h few 16_000 (omega arith) (omega arith) form

@@ -1,0 +1,73 @@
+-- What repair answers (01, 'Repair'), for any received symbols, limit and budget.
+use Prim.Native.Nat.{ℕ}
+use mathlib.Core.Bool.{cond, not}
+use mathlib.Core.List.{List, [], _∷_}
+use lib.Dec.{eqb, leb, ltb}
+use lib.ListN.{length, getD}
+use Rattle.basics.specs.Below.{countBelow}
+use Rattle.basics.specs.Lists.{firstFalse}
+use Rattle.basics.specs.Test.{between}
+use Rattle.refusal.specs.Refusals.{refusal, wrongLength, symbolTooLarge, badBound, overBudget, noneWithinLimit, sharedFewest}
+use Rattle.frame.specs.Symbols.{receivedBits}
+use Rattle.frame.specs.Answer.{firstLarge, synced}
+use Rattle.distance.specs.Prefixes.{liveCount}
+use Rattle.distance.specs.Nearest.{fewest, sharing, nearest}
+use Rattle.repair.specs.declared.Nearest.{Nearest}
+use Rattle.repair.specs.declared.Repaired.{Repaired}
+
+-- "limit above 12, or budget 0 or above 65,536": place 0 or 1, and 2 where neither is so.
+unfoldable pub firstBadBound : ℕ → ℕ → ℕ
+firstBadBound limit budget = firstFalse 0 (leb limit 12 ∷ between 1 65_536 budget ∷ [])
+
+-- "the number of the 162 symbols whose sync bit (symbol modulo 2) is wrong"
+unfoldable pub unsyncedIn : List ℕ → ℕ
+unsyncedIn frame = countBelow 162 (λ place. not (synced place (getD frame place 0)))
+
+-- "The answer holds the word, its disagreements, the live count, and the number of .. wrong" sync bits.
+unfoldable pub nearestOf : List ℕ → ℕ → Nearest
+nearestOf frame limit =
+    let received = receivedBits frame in
+    record {
+      word = nearest received;
+      disagreements = fewest received;
+      live = liveCount received limit;
+      unsynced = unsyncedIn frame;
+    }
+
+-- The one word with the fewest disagreements where these are at most the limit, or why there is none. If the fewest lie above the limit,
+-- 17 is given, shared or not.
+unfoldable pub nearestWithin : List ℕ → ℕ → Repaired
+nearestWithin frame limit =
+    let received = receivedBits frame in
+    cond (ltb limit (fewest received)) (Repaired.Refused (refusal noneWithinLimit 0))
+    (cond (ltb 1 (sharing received)) (Repaired.Refused (refusal sharedFewest 0))
+    (Repaired.Word (nearestOf frame limit)))
+
+-- Of 162 symbols of 0 to 3, and a limit and a budget within their bounds: "All four equal their definitions here, from the symbols and
+-- the limit alone, whatever the search went through."
+unfoldable pub searched : List ℕ → ℕ → ℕ → Repaired
+searched frame limit budget =
+    cond (ltb budget (liveCount (receivedBits frame) limit)) (Repaired.Refused (refusal overBudget 0)) (nearestWithin frame limit)
+
+-- "repair 1, 15, 7, 16, 17, 18"
+unfoldable pub repaired : List ℕ → ℕ → ℕ → Repaired
+repaired frame limit budget =
+    cond (not (eqb (length frame) 162)) (Repaired.Refused (refusal wrongLength 0))
+    (cond (ltb (firstBadBound limit budget) 2) (Repaired.Refused (refusal badBound (firstBadBound limit budget)))
+    (cond (ltb (firstLarge frame) 162) (Repaired.Refused (refusal symbolTooLarge (firstLarge frame)))
+    (searched frame limit budget)))
+
+-- ---- The result numbers of an answer: 0 where it has none
+
+-- Refusal number, place, and the word with what belongs to it
+pub record RepairNumbers : Type 0 where
+  pub number : ℕ
+  pub place : ℕ
+  pub nearest : Nearest
+
+unfoldable pub noNearest : Nearest
+noNearest = record { word = 0; disagreements = 0; live = 0; unsynced = 0 }
+
+unfoldable pub repairNumbers : Repaired → RepairNumbers
+repairNumbers (Repaired.Word n) = record { number = 0; place = 0; nearest = n }
+repairNumbers (Repaired.Refused f) = record { number = f .number; place = f .place; nearest = noNearest }
