@@ -1,6 +1,6 @@
 -- Laws of sums, counts and least values over the numbers below n.
 use mathlib.Core.Path.{_≡_, refl, sym, ap, _∙_}
-use Prim.Native.Nat.{ℕ, zero, suc, _+_, _≤_, _<_, min}
+use Prim.Native.Nat.{ℕ, zero, suc, _+_, _≤_, _<_}
 use native.Mathlib.Nat.{add-suc, add-zero, zero-add}
 use native.Mathlib.Omega.{arith}
 use mathlib.Core.Bool.{Bool, true, false, true≢false, cond}
@@ -67,7 +67,7 @@ sum-single (suc n) f at h others =
 
 -- A sum in another order is the same: f takes the numbers below n to the numbers below n, and g takes each back.
 module _ (n : ℕ) (f g : ℕ → ℕ) (f-below : (i : ℕ) → i < n → f i < n) (g-f : (i : ℕ) → i < n → g (f i) ≡ i)
-  (g-below : (j : ℕ) → j < n → g j < n) (f-g : (j : ℕ) → j < n → f (g j) ≡ j) (h : ℕ → ℕ) where
+    (g-below : (j : ℕ) → j < n → g j < n) (f-g : (j : ℕ) → j < n → f (g j) ≡ j) (h : ℕ → ℕ) where
   only : ℕ → ℕ → ℕ
   only i j = cond (eqb (f i) j) (h j) 0
 

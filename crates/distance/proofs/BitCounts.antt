@@ -3,12 +3,12 @@ use mathlib.Core.Path.{_≡_, refl, sym, ap, ap₂, _∙_}
 use Prim.Native.Nat.{ℕ, zero, suc, _+_, _*_, _/_, _%_, _^_, _<_}
 use native.Mathlib.Nat.{pow-suc, add-comm, mul-comm, mul-assoc, div-eq-of-lt, add-mul-div-right}
 use native.Mathlib.Omega.{arith}
-use mathlib.Core.Bool.{Bool, true, false, cond}
+use mathlib.Core.Bool.{Bool, cond}
 use mathlib.Core.List.{List, [], _∷_}
 use lib.ListN.{length, replicate}
 use Rattle.basics.specs.Below.{countBelow}
 use Rattle.basics.proofs.BelowLaws.{count-same, count-append, count-of-one}
-use Rattle.radix.specs.Numeral.{count, digitsOf}
+use Rattle.radix.specs.Numeral.{digitsOf}
 use Rattle.radix.proofs.Laws.{count-positive}
 use Rattle.convolution.specs.Code.{bitsOf}
 use Rattle.convolution.proofs.CodeLaws.{count-bits, positive-bits}

@@ -1,10 +1,9 @@
 -- Laws of the nearest word: where every other word has more disagreements, it is the one that is found, and only there is it one alone.
-use mathlib.Core.Path.{_≡_, refl, sym, ap, _∙_}
+use mathlib.Core.Path.{_≡_, sym}
 use Prim.Native.Nat.{ℕ, _-_, _^_, _≤_, _<_}
 use native.Mathlib.Omega.{arith}
 use mathlib.Core.Bool.{true}
 use mathlib.Core.List.{List}
-use lib.Dec.{eqb}
 use borrow.Author.Tests.{eq-eqb, eqb-true}
 use Rattle.basics.proofs.BelowLaws.{count-only, count-single, last-single, least-below, least-reached}
 use Rattle.basics.proofs.Choice.{below-or-not, equal-or-not}
@@ -67,10 +66,12 @@ module _ (received : List ℕ) where
       only : OnlyNearest received found
       only =
           let there = fewest-reached .1 .0 in
-          let least = fewest-reached .1 .1 in
-          (there, λ other h different.
-          below-or-not (wordDisagreements received found) (wordDisagreements received other)
-          (λ more. more)
-          (λ no-more.
-          let as-few : wordDisagreements received other ≡ fewest received = omega (arith, fewest-below other h) in
-          absurd (different (count-only (2 ^ 50) (hasFewest received) one other found h there (has other as-few) (has found least)))))
+          let least = fewest-reached .1 .1 in (
+            there,
+            λ other h different.
+                below-or-not (wordDisagreements received found) (wordDisagreements received other)
+                (λ more. more)
+                (λ no-more.
+                let as-few : wordDisagreements received other ≡ fewest received = omega (arith, fewest-below other h) in
+                absurd (different (count-only (2 ^ 50) (hasFewest received) one other found h there (has other as-few) (has found least)))),
+          )

@@ -1,32 +1,34 @@
 -- Laws of prefixes: the prefixes of a word, and what a longer prefix adds.
-use mathlib.Core.Path.{_≡_, refl, sym, ap, ap₂, _∙_}
-use Prim.Native.Nat.{ℕ, zero, suc, _+_, _-_, _*_, _/_, _%_, _^_, _≤_, _<_, min}
-use native.Mathlib.Nat.{min-eq-left, add-comm, div-one}
+use mathlib.Core.Path.{_≡_, refl, ap, _∙_}
+use Prim.Native.Nat.{ℕ, zero, suc, _+_, _-_, _/_, _^_, _≤_, _<_}
+use native.Mathlib.Nat.{add-comm, div-one}
 use native.Mathlib.Omega.{arith}
+use mathlib.Core.Bool.{true}
 use mathlib.Core.List.{List, [], _∷_, _++_, append-nil, append-assoc}
-use lib.ListN.{length, take, drop, replicate, length-append, length-replicate, replicate-append-replicate}
+use lib.ListN.{length, take, replicate, length-append, length-replicate, replicate-append-replicate}
 use lib.Pow.{shr-shr}
-use lib.Seq.{take-append-le, take-all, take-append-seam}
+use lib.Seq.{take-append-le, take-append-seam}
+use borrow.Author.Tests.{le-leb, leb-true}
 use Rattle.basics.proofs.Choice.{below-or-not}
 use Rattle.radix.specs.Numeral.{digitsOf}
 use Rattle.convolution.specs.Code.{bitsOf, clockedBits, clocked, firstMask, secondMask, codedFrom, codedBits}
-use Rattle.convolution.proofs.CodeLaws.{count-bits, length-bitsOf, parity-below, length-codedFrom}
-use Rattle.distance.specs.Prefixes.{prefixBits, differences, disagreements, wordDisagreements}
-use Rattle.distance.proofs.Bits.{AllBits, bits-append, bits-zeros, bits-bitsOf, differences-grow}
+use Rattle.convolution.proofs.CodeLaws.{count-bits, length-bitsOf, parity-below}
+use Rattle.distance.specs.Prefixes.{freeOf, prefixBits, differences, disagreements, wordDisagreements, isLive}
+use Rattle.distance.proofs.Bits.{AllBits, differences-grow}
 
 -- ---- The prefixes of a word
 
-pub length-prefixBits : (k number : ℕ) → length (prefixBits k number) ≡ k
-unfolding prefixBits
-length-prefixBits k number =
-    let first = bitsOf (min k 50) number in
-    let zeros : List ℕ = replicate (k - 50) 0 in
-    omega (arith, length-append first zeros, length-bitsOf (min k 50) number, length-replicate {A = ℕ} (k - 50) 0)
+free-first : (k : ℕ) → k ≤ 50 → freeOf k ≡ k
+unfolding freeOf
+free-first k h = omega arith
 
-pub bits-prefixBits : (k number : ℕ) → AllBits (prefixBits k number)
-unfolding prefixBits
-bits-prefixBits k number =
-    bits-append (bitsOf (min k 50) number) (replicate (k - 50) 0) (bits-bitsOf (min k 50) number) (bits-zeros (k - 50))
+free-later : (k : ℕ) → 50 ≤ k → freeOf k ≡ 50
+unfolding freeOf
+free-later k h = omega arith
+
+pub free-most : (k : ℕ) → freeOf k ≤ k
+unfolding freeOf
+free-most k = omega arith
 
 -- The first k bits of k + j are those of the number without its j lowest.
 first-bits : (k j number : ℕ) → take k (bitsOf (k + j) number) ≡ bitsOf k (number / 2 ^ j)
@@ -36,42 +38,66 @@ first-bits (suc k) j number =
     let longer : suc k + j ≡ suc (k + j) = omega arith in
     rw (longer, count-bits (k + j), count-bits k, shr-shr number j k, add-comm j k, first-bits k j number)
 
+-- Up to the fiftieth bit, and after it.
+module _ (k word : ℕ) where
+  prefix-first : k ≤ 50 → take k (clockedBits word) ≡ prefixBits k (word / 2 ^ (50 - k))
+  unfolding clockedBits prefixBits
+  prefix-first h =
+      let none : k - k ≡ 0 = omega arith in
+      let all : k + (50 - k) ≡ 50 = omega arith in
+      rw (free-first k h, none, append-nil (bitsOf k (word / 2 ^ (50 - k))))
+      (take-append-le k (bitsOf 50 word) (replicate 31 0) (rw (length-bitsOf 50 word) h) ∙ rw all at (first-bits k (50 - k) word))
+
+  prefix-later : 50 < k → k ≤ 81 → take k (clockedBits word) ≡ prefixBits k (word / 2 ^ (50 - k))
+  unfolding clockedBits prefixBits
+  prefix-later h most =
+      let none : 50 - k ≡ 0 = omega arith in
+      let all : k - 50 + (81 - k) ≡ 31 = omega arith in
+      let bits = bitsOf 50 word in
+      let zeros : List ℕ = replicate (k - 50) 0 in
+      let rest : List ℕ = replicate (81 - k) 0 in
+      let tail : zeros ++ rest ≡ replicate 31 0 = replicate-append-replicate (k - 50) (81 - k) 0 ∙ ap (λ (n : ℕ). replicate n 0) all in
+      let size : k ≡ length (bits ++ zeros) =
+      omega (arith, length-append bits zeros, length-bitsOf 50 word, length-replicate {A = ℕ} (k - 50) 0) in
+      rw (none, free-later k (omega arith), div-one word, ← tail, ← append-assoc bits zeros rest)
+      (ap (λ (n : ℕ). take n ((bits ++ zeros) ++ rest)) size ∙ take-append-seam (bits ++ zeros) rest)
+
 -- "the first k of the 81 clocked bits"
 pub prefix-of-word : (k word : ℕ) → k ≤ 81 → take k (clockedBits word) ≡ prefixBits k (word / 2 ^ (50 - k))
-unfolding clockedBits prefixBits
-prefix-of-word k word h = below-or-not 50 k later first
-  where
-    first : k ≤ 50 → take k (clockedBits word) ≡ prefixBits k (word / 2 ^ (50 - k))
-    first l =
-        let none : k - 50 ≡ 0 = omega arith in
-        let all : k + (50 - k) ≡ 50 = omega arith in
-        rw (min-eq-left l, none, append-nil (bitsOf k (word / 2 ^ (50 - k))))
-        (take-append-le k (bitsOf 50 word) (replicate 31 0) (rw (length-bitsOf 50 word) l)
-        ∙ rw all at (first-bits k (50 - k) word))
-    later : 50 < k → take k (clockedBits word) ≡ prefixBits k (word / 2 ^ (50 - k))
-    later l =
-        let none : 50 - k ≡ 0 = omega arith in
-        let all : k - 50 + (81 - k) ≡ 31 = omega arith in
-        let bits = bitsOf 50 word in
-        let zeros : List ℕ = replicate (k - 50) 0 in
-        let rest : List ℕ = replicate (81 - k) 0 in
-        let tail : zeros ++ rest ≡ replicate 31 0 = replicate-append-replicate (k - 50) (81 - k) 0 ∙ ap (λ (n : ℕ). replicate n 0) all in
-        let size : k ≡ length (bits ++ zeros) =
-            omega (arith, length-append bits zeros, length-bitsOf 50 word, length-replicate {A = ℕ} (k - 50) 0) in
-        let fifty : min k 50 ≡ 50 = omega arith in
-        rw (none, fifty, div-one word)
-        (ap (λ (z : List ℕ). take k (bits ++ z)) (sym tail)
-        ∙ ap (take k) (sym (append-assoc bits zeros rest))
-        ∙ ap (λ (n : ℕ). take n ((bits ++ zeros) ++ rest)) size
-        ∙ take-append-seam (bits ++ zeros) rest)
+prefix-of-word k word h = below-or-not 50 k (λ later. prefix-later k word later h) (prefix-first k word)
+
+pub length-prefixBits : (k number : ℕ) → length (prefixBits k number) ≡ k
+unfolding prefixBits
+length-prefixBits k number =
+    let first = bitsOf (freeOf k) number in
+    let zeros : List ℕ = replicate (k - freeOf k) 0 in
+    omega (arith, length-append first zeros, length-bitsOf (freeOf k) number, length-replicate {A = ℕ} (k - freeOf k) 0, free-most k)
 
 pub word-prefix : (word : ℕ) → prefixBits 81 word ≡ clockedBits word
 unfolding prefixBits clockedBits
-word-prefix word = refl
+word-prefix word = rw (free-later 81 (omega arith))
 
 pub word-disagreements : (received : List ℕ) (word : ℕ) → wordDisagreements received word ≡ differences (codedBits word) received
-unfolding wordDisagreements disagreements codedBits prefixBits clockedBits
-word-disagreements received word = refl
+unfolding wordDisagreements disagreements codedBits
+word-disagreements received word = rw (word-prefix word)
+
+-- ---- Live prefixes
+
+-- "A prefix is live if its disagreements are at most the limit", and only then.
+module _ (received : List ℕ) (limit : ℕ) (bits : List ℕ) where
+  pub live-within : disagreements received bits ≤ limit → isLive received limit bits ≡ true
+  unfolding isLive
+  live-within h = le-leb (disagreements received bits) limit h
+
+  pub within-live : isLive received limit bits ≡ true → disagreements received bits ≤ limit
+  unfolding isLive
+  within-live e = leb-true (disagreements received bits) limit e
+
+-- It goes by the disagreements alone.
+pub live-same : (r s : List ℕ) (limit : ℕ) (bits others : List ℕ) → disagreements r bits ≡ disagreements s others
+    → isLive r limit bits ≡ isLive s limit others
+unfolding isLive
+live-same r s limit bits others e = rw e
 
 -- ---- Longer prefixes
 
@@ -91,6 +117,10 @@ unfolding codedFrom AllBits
 bits-codedFrom first second [] = tt
 bits-codedFrom first second (bit ∷ bits) =
     (parity-below firstMask (clocked first bit), (parity-below secondMask (clocked second bit), bits-codedFrom (clocked first bit) (clocked second bit) bits))
+
+pub bits-codedBits : (word : ℕ) → AllBits (codedBits word)
+unfolding codedBits
+bits-codedBits word = bits-codedFrom 0 0 (clockedBits word)
 
 -- Disagreements grow along a prefix.
 pub disagreements-grow : (received bits more : List ℕ) → disagreements received bits ≤ disagreements received (bits ++ more)

@@ -1,22 +1,19 @@
 -- The live prefixes around a sent word depend on the flips alone: they are as many as those around the zero word with the same flips. And
 -- with d flips those within a limit are at most those of the unflipped frame within the limit plus d.
-use mathlib.Core.Path.{_≡_, refl, sym, ap, ap₂, _∙_}
-use Prim.Native.Nat.{ℕ, _+_, _-_, _*_, _/_, _^_, _≤_, _<_, min}
+use mathlib.Core.Path.{_≡_, sym, ap, _∙_}
+use Prim.Native.Nat.{ℕ, _+_, _-_, _/_, _^_, _≤_}
 use native.Mathlib.Omega.{arith}
 use mathlib.Core.Bool.{Bool, true}
-use mathlib.Core.List.{List, [], _∷_, _++_}
-use lib.Dec.{leb}
-use lib.ListN.{length, take, drop, replicate, length-append, take-append-drop}
-use borrow.Author.Tests.{le-leb, leb-true}
-use Rattle.basics.specs.Below.{sumBelow, countBelow}
+use mathlib.Core.List.{List, _++_}
+use lib.ListN.{length, drop, replicate, length-append, take-append-drop}
 use Rattle.basics.proofs.BelowLaws.{sum-same, sum-le, count-le}
 use Rattle.convolution.specs.Code.{bitsOf, clockedBits, codedFrom, codedBits}
 use Rattle.convolution.proofs.CodeLaws.{length-bitsOf, length-codedFrom, length-codedBits}
-use Rattle.distance.specs.Prefixes.{prefixBits, prefixesOf, differences, disagreements, isLive, liveOf, liveCount}
-use Rattle.distance.proofs.Bits.{AllBits, bits-append, bits-zeros, bits-bitsOf, summed, summed-append, summed-zeros, summed-unchanged, triangle, differences-summed}
-use Rattle.distance.proofs.BitCounts.{countBits, countBits-same, count-by-bits, countBits-summed}
+use Rattle.distance.specs.Prefixes.{freeOf, prefixBits, prefixesOf, differences, disagreements, isLive, liveOf, liveCount}
+use Rattle.distance.proofs.Bits.{AllBits, bits-append, bits-zeros, bits-bitsOf, summed, summed-append, summed-zeros, summed-unchanged, summed-twice, bits-summed, triangle, differences-summed}
+use Rattle.distance.proofs.BitCounts.{countBits-same, count-by-bits, countBits-summed}
 use Rattle.distance.proofs.Linear.{codedFrom-sum}
-use Rattle.distance.proofs.PrefixLaws.{length-prefixBits, prefix-of-word, registerAfter, codedFrom-append, bits-codedFrom}
+use Rattle.distance.proofs.PrefixLaws.{length-prefixBits, prefix-of-word, live-within, within-live, live-same, registerAfter, codedFrom-append, bits-codedFrom, bits-codedBits}
 
 -- ---- Around a sent word
 
@@ -37,41 +34,50 @@ module _ (word : ℕ) (flips : List ℕ) (are-bits : AllBits flips) where
       rw (split, codedFrom-append 0 0 sent rest, codedFrom-sum 0 0 0 0 bits sent k h)
       (differences-summed own theirs later flips size (bits-codedFrom 0 0 bits) (bits-codedFrom 0 0 sent) are-bits)
 
-  prefix-recentred : (k : ℕ) (bits : List ℕ) → k ≤ 81 → length bits ≡ min k 50 → AllBits bits
-      → disagreements received (summed bits (bitsOf (min k 50) (word / 2 ^ (50 - k))) ++ replicate (k - 50) 0)
-      ≡ disagreements flips (bits ++ replicate (k - 50) 0)
+  prefix-recentred : (k : ℕ) (bits : List ℕ) → k ≤ 81 → length bits ≡ freeOf k → AllBits bits
+      → disagreements received (summed bits (bitsOf (freeOf k) (word / 2 ^ (50 - k))) ++ replicate (k - freeOf k) 0)
+      ≡ disagreements flips (bits ++ replicate (k - freeOf k) 0)
   unfolding prefixBits
   prefix-recentred k bits h e b =
-      let zeros : List ℕ = replicate (k - 50) 0 in
-      let first = bitsOf (min k 50) (word / 2 ^ (50 - k)) in
+      let zeros : List ℕ = replicate (k - freeOf k) 0 in
+      let first = bitsOf (freeOf k) (word / 2 ^ (50 - k)) in
       let sent = first ++ zeros in
-      let first-size : length first ≡ min k 50 = length-bitsOf (min k 50) (word / 2 ^ (50 - k)) in
+      let first-size : length first ≡ freeOf k = length-bitsOf (freeOf k) (word / 2 ^ (50 - k)) in
       let split : clockedBits word ≡ sent ++ drop k (clockedBits word) =
-          sym (take-append-drop k (clockedBits word)) ∙ ap (λ (xs : List ℕ). xs ++ drop k (clockedBits word)) (prefix-of-word k word h) in
+      sym (take-append-drop k (clockedBits word)) ∙ ap (λ (xs : List ℕ). xs ++ drop k (clockedBits word)) (prefix-of-word k word h) in
       let same : length (bits ++ zeros) ≡ length sent = omega (arith, length-append bits zeros, length-append first zeros) in
-      let sent-bits : AllBits sent = bits-append first zeros (bits-bitsOf (min k 50) (word / 2 ^ (50 - k))) (bits-zeros (k - 50)) in
+      let sent-bits : AllBits sent = bits-append first zeros (bits-bitsOf (freeOf k) (word / 2 ^ (50 - k))) (bits-zeros (k - freeOf k)) in
       let apart : summed (bits ++ zeros) sent ≡ summed bits first ++ zeros =
-          summed-append bits first zeros zeros (omega arith) ∙ ap (λ (xs : List ℕ). summed bits first ++ xs) (summed-zeros (k - 50)) in
+      summed-append bits first zeros zeros (omega arith) ∙ ap (λ (xs : List ℕ). summed bits first ++ xs) (summed-zeros (k - freeOf k)) in
       ap (disagreements received) (sym apart)
-      ∙ disagreements-recentred sent (drop k (clockedBits word)) (bits ++ zeros) split same sent-bits (bits-append bits zeros b (bits-zeros (k - 50)))
+      ∙ disagreements-recentred sent (drop k (clockedBits word)) (bits ++ zeros) split same sent-bits (bits-append bits zeros b (bits-zeros (k - freeOf k)))
 
   pub liveOf-recentred : (limit k : ℕ) → k ≤ 81 → liveOf received limit k ≡ liveOf flips limit k
-  unfolding liveOf prefixesOf prefixBits isLive
+  unfolding liveOf prefixesOf prefixBits
   liveOf-recentred limit k h =
-      let m = min k 50 in
-      let zeros : List ℕ = replicate (k - 50) 0 in
+      let m = freeOf k in
+      let zeros : List ℕ = replicate (k - freeOf k) 0 in
       let sent = bitsOf m (word / 2 ^ (50 - k)) in
       let live : List ℕ → List ℕ → Bool = λ r bits. isLive r limit (bits ++ zeros) in
       count-by-bits m (live received)
       ∙ sym (countBits-summed m (live received) sent (length-bitsOf m (word / 2 ^ (50 - k))) (bits-bitsOf m (word / 2 ^ (50 - k))))
       ∙ countBits-same m (λ bits. live received (summed bits sent)) (live flips)
-      (λ bits e b. ap (λ (d : ℕ). leb d limit) (prefix-recentred k bits h e b))
+      (λ bits e b. live-same received flips limit (summed bits sent ++ zeros) (bits ++ zeros) (prefix-recentred k bits h e b))
       ∙ sym (count-by-bits m (live flips))
 
   pub liveCount-recentred : (limit : ℕ) → liveCount received limit ≡ liveCount flips limit
   unfolding liveCount
   liveCount-recentred limit =
-      sum-same 81 (λ i. liveOf received limit (i + 1)) (λ i. liveOf flips limit (i + 1)) (λ i h. liveOf-recentred limit (i + 1) (omega arith))
+      sum-same _ (λ i. liveOf received limit (i + 1)) (λ i. liveOf flips limit (i + 1)) (λ i h. liveOf-recentred limit (i + 1) (omega arith))
+
+-- So it is of any received bits: what counts is where they differ from the word's.
+pub liveCount-around : (word limit : ℕ) (received : List ℕ) → AllBits received → length received ≡ 162
+    → liveCount received limit ≡ liveCount (summed (codedBits word) received) limit
+liveCount-around word limit received are-bits long =
+    let flips = summed (codedBits word) received in
+    let back : summed (codedBits word) flips ≡ received =
+    summed-twice (codedBits word) received (bits-codedBits word) are-bits (omega (arith, length-codedBits word)) in
+    ap (λ (r : List ℕ). liveCount r limit) (sym back) ∙ liveCount-recentred word flips (bits-summed (codedBits word) received) limit
 
 -- ---- No flips
 
@@ -80,8 +86,7 @@ abbrev pub zeroBits : List ℕ
 zeroBits = replicate 162 0
 
 own-bits : (word : ℕ) → summed (codedBits word) zeroBits ≡ codedBits word
-unfolding codedBits
-own-bits word = summed-unchanged 162 (codedBits word) (bits-codedFrom 0 0 (clockedBits word)) (omega (arith, length-codedBits word))
+own-bits word = summed-unchanged 162 (codedBits word) (bits-codedBits word) (omega (arith, length-codedBits word))
 
 pub liveOf-clean : (word limit k : ℕ) → k ≤ 81 → liveOf (codedBits word) limit k ≡ liveOf zeroBits limit k
 liveOf-clean word limit k h =
@@ -97,12 +102,17 @@ liveCount-clean word limit =
 module _ (word : ℕ) (received : List ℕ) (long : length received ≡ 162) where
   live-unflipped : (limit k number : ℕ) → k ≤ 81 → isLive received limit (prefixBits k number) ≡ true
       → isLive (codedBits word) (limit + differences received (codedBits word)) (prefixBits k number) ≡ true
-  unfolding isLive disagreements
+  unfolding disagreements
   live-unflipped limit k number h e =
-      let bits = prefixBits k number in
-      let size : length (codedFrom 0 0 bits) ≤ length received = omega (arith, length-codedFrom 0 0 bits, length-prefixBits k number) in
-      le-leb (differences (codedFrom 0 0 bits) (codedBits word)) (limit + differences received (codedBits word))
-      (omega (arith, triangle (codedFrom 0 0 bits) received (codedBits word) size, leb-true (differences (codedFrom 0 0 bits) received) limit e))
+      live-within (codedBits word) (limit + differences received (codedBits word)) (prefixBits k number)
+      (closer (within-live received limit (prefixBits k number) e))
+    where
+      closer : disagreements received (prefixBits k number) ≤ limit
+          → disagreements (codedBits word) (prefixBits k number) ≤ limit + differences received (codedBits word)
+      closer near =
+          let coded = codedFrom 0 0 (prefixBits k number) in
+          let size : length coded ≤ length received = omega (arith, length-codedFrom 0 0 (prefixBits k number), length-prefixBits k number) in
+          omega (arith, triangle coded received (codedBits word) size)
 
   pub liveOf-flipped : (limit k : ℕ) → k ≤ 81 → liveOf received limit k ≤ liveOf (codedBits word) (limit + differences received (codedBits word)) k
   unfolding liveOf
@@ -114,5 +124,5 @@ module _ (word : ℕ) (received : List ℕ) (long : length received ≡ 162) whe
   pub liveCount-flipped : (limit : ℕ) → liveCount received limit ≤ liveCount (codedBits word) (limit + differences received (codedBits word))
   unfolding liveCount
   liveCount-flipped limit =
-      sum-le 81 (λ i. liveOf received limit (i + 1)) (λ i. liveOf (codedBits word) (limit + differences received (codedBits word)) (i + 1))
+      sum-le _ (λ i. liveOf received limit (i + 1)) (λ i. liveOf (codedBits word) (limit + differences received (codedBits word)) (i + 1))
       (λ i h. liveOf-flipped limit (i + 1) (omega arith))

@@ -1,22 +1,22 @@
 -- The live count as a sum over a tree: each prefix has the longer ones below it, and below one that isn't live nothing is counted, as
 -- disagreements only grow. The tree of few live prefixes can be computed.
 use mathlib.Core.Path.{_≡_, refl, sym, ap, ap₂, _∙_}
-use Prim.Native.Nat.{ℕ, zero, suc, _+_, _-_, _*_, _/_, _%_, _^_, _≤_, _<_, min}
-use native.Mathlib.Nat.{pow-suc, zero-add}
+use Prim.Native.Nat.{ℕ, zero, suc, _+_, _-_, _/_, _%_, _^_, _≤_, _<_, min}
+use native.Mathlib.Nat.{pow-suc}
 use native.Mathlib.Numerals.{add-one}
 use native.Mathlib.Omega.{arith}
-use mathlib.Core.Bool.{Bool, true, false, cond}
+use mathlib.Core.Bool.{Bool, true, false}
 use mathlib.Core.List.{List, [], _∷_, _++_}
 use lib.Bits.{bitAnd, and-le-r}
 use lib.Count.{ones, onesIn, ones-step}
 use lib.Dec.{leb}
-use lib.ListN.{length, drop, replicate}
+use lib.ListN.{drop, replicate}
 use borrow.Author.Tests.{le-leb, lt-leb, leb-true, leb-false}
 use Rattle.basics.specs.Below.{sumBelow}
 use Rattle.basics.proofs.BelowLaws.{sum-same, sum-zero, sum-plus, sum-first}
 use Rattle.basics.proofs.Choice.{by-test, below-or-not}
-use Rattle.convolution.specs.Code.{bitsOf, clocked, firstMask, secondMask, parity, codedFrom}
-use Rattle.distance.specs.Prefixes.{prefixBits, prefixesOf, differences, disagreements, isLive, liveOf, liveCount}
+use Rattle.convolution.specs.Code.{clocked, firstMask, secondMask, parity, codedFrom}
+use Rattle.distance.specs.Prefixes.{freeOf, prefixBits, prefixesOf, differences, disagreements, isLive, liveOf, liveCount}
 use Rattle.distance.proofs.BitCounts.{countBits, countBits-same, count-by-bits}
 
 -- ---- A parity that is computed
@@ -238,10 +238,10 @@ level-counted (suc k) (suc free) (suc m) j e f register received limit =
     (begin-level m k free rest longer register received limit 1)
 
 pub liveOf-level : (received : List ℕ) (limit k : ℕ) → liveOf received limit k ≡ level k 50 0 received limit
-unfolding liveOf prefixesOf prefixBits isLive disagreements further
+unfolding liveOf prefixesOf prefixBits freeOf isLive disagreements further
 liveOf-level received limit k =
-    count-by-bits (min k 50) (λ bits. isLive received limit (bits ++ replicate (k - 50) 0))
-    ∙ level-counted k 50 (min k 50) (k - 50) refl refl 0 received limit
+    count-by-bits (freeOf k) (λ bits. isLive received limit (bits ++ replicate (k - freeOf k) 0))
+    ∙ level-counted k 50 (freeOf k) (k - freeOf k) refl (omega arith) 0 received limit
 
 -- The live count is the sum over the tree.
 pub liveCount-tree : (received : List ℕ) (limit : ℕ) → liveCount received limit ≡ tree 81 50 0 received limit

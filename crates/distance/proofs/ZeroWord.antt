@@ -8,17 +8,17 @@ use mathlib.Core.List.{List, [], _∷_}
 use lib.Count.{onesIn}
 use lib.Dec.{leb}
 use lib.ListN.{length, getD}
-use borrow.Author.Tests.{le-leb, leb-true}
+use borrow.Author.Tests.{leb-true}
 use Rattle.basics.specs.Lists.{tabulate}
 use Rattle.basics.proofs.BelowLaws.{count-only}
 use Rattle.basics.proofs.Choice.{below-or-not}
 use Rattle.basics.proofs.ListLaws.{getD-tabulate}
-use Rattle.basics.proofs.Tables.{every-below, below-at}
+use Rattle.basics.proofs.Tables.{below-at}
 use Rattle.convolution.specs.Code.{clocked, firstMask, secondMask, codedBits}
 use Rattle.convolution.proofs.CodeLaws.{length-codedBits}
-use Rattle.distance.specs.Prefixes.{prefixBits, prefixesOf, differences, wordDisagreements, isLive, liveOf, liveCount}
+use Rattle.distance.specs.Prefixes.{freeOf, prefixBits, prefixesOf, differences, wordDisagreements, isLive, liveOf, liveCount}
 use Rattle.distance.proofs.Bits.{differences-sym, differences-none, triangle}
-use Rattle.distance.proofs.PrefixLaws.{word-disagreements}
+use Rattle.distance.proofs.PrefixLaws.{word-disagreements, live-within}
 use Rattle.distance.proofs.Recentred.{zeroBits, liveOf-clean, liveCount-clean, liveCount-flipped}
 use Rattle.distance.proofs.Tree.{parity32, stepCost, step, level, tree, liveOf-level, liveCount-tree}
 
@@ -60,12 +60,12 @@ one-within-five : (word : ℕ) → liveOf (codedBits word) 5 81 ≡ 1
 one-within-five word = liveOf-clean word 5 81 (omega arith) ∙ liveOf-level zeroBits 5 81 ∙ words-computed
 
 live-word : (word other : ℕ) → differences (codedBits other) (codedBits word) ≤ 5 → isLive (codedBits word) 5 (prefixBits 81 other) ≡ true
-unfolding isLive wordDisagreements
-live-word word other h = le-leb (wordDisagreements (codedBits word) other) 5 (omega (arith, word-disagreements (codedBits word) other))
+unfolding wordDisagreements
+live-word word other h = live-within (codedBits word) 5 (prefixBits 81 other) (omega (arith, word-disagreements (codedBits word) other))
 
 -- Two words that differ in at most five places are the same.
 same-within-five : (v w : ℕ) → v < 2 ^ 50 → w < 2 ^ 50 → differences (codedBits v) (codedBits w) ≤ 5 → v ≡ w
-unfolding liveOf prefixesOf
+unfolding liveOf prefixesOf freeOf
 same-within-five v w h k near =
     count-only (2 ^ 50) (λ number. isLive (codedBits w) 5 (prefixBits 81 number)) (omega (arith, one-within-five w)) v w h k
     (live-word w v near) (live-word w w (omega (arith, differences-none (codedBits w))))

@@ -8,14 +8,18 @@ use lib.ListN.{replicate}
 use Rattle.basics.specs.Below.{sumBelow, countBelow}
 use Rattle.convolution.specs.Code.{bitsOf, codedFrom}
 
--- "A prefix is the first k of the 81 clocked bits, k from 1 to 81, with every bit after the fiftieth zero." Its bits up to the fiftieth
--- are those of a number, so that the prefixes of k bits are numbered from 0 on.
+-- How many of the first k clocked bits are free: "every bit after the fiftieth" is zero.
+unfoldable pub freeOf : ℕ → ℕ
+freeOf k = min k 50
+
+-- "A prefix is the first k of the 81 clocked bits, k from 1 to 81, with every bit after the fiftieth zero." Its free bits are those of a
+-- number, so that the prefixes of k bits are numbered from 0 on.
 unfoldable pub prefixBits : ℕ → ℕ → List ℕ
-prefixBits k number = bitsOf (min k 50) number ++ replicate (k - 50) 0
+prefixBits k number = bitsOf (freeOf k) number ++ replicate (k - freeOf k) 0
 
 -- How many prefixes of k bits there are.
 unfoldable pub prefixesOf : ℕ → ℕ
-prefixesOf k = 2 ^ min k 50
+prefixesOf k = 2 ^ freeOf k
 
 -- In how many of the places that both lists have they differ: the Hamming distance.
 unfoldable pub differences : List ℕ → List ℕ → ℕ

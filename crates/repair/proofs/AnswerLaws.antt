@@ -1,24 +1,22 @@
 -- Repair's answer is what demand 3 asks for.
-use mathlib.Core.Path.{_≡_, refl, sym, ap, _∙_}
-use mathlib.Core.Logic.{_↔_}
+use mathlib.Core.Path.{_≡_, refl, ap, _∙_}
 use Prim.Native.Nat.{ℕ, _≤_, _<_}
 use native.Mathlib.Omega.{arith}
-use mathlib.Core.Bool.{true, false, cond}
 use mathlib.Core.List.{List}
 use lib.Dec.{ltb}
-use lib.ListN.{length, getD}
+use lib.ListN.{length}
 use borrow.Author.Tests.{eq-eqb, lt-ltb, le-ltb, le-leb, ltb-true, ltb-false}
 use Rattle.basics.specs.Lists.{firstFailing}
 use Rattle.basics.proofs.Choice.{cond-passed, cond-held, cond-both, between-true}
 use Rattle.basics.proofs.ListLaws.{passes-each}
 use Rattle.refusal.specs.declared.Refusal.{Refusal}
-use Rattle.refusal.specs.Refusals.{refusal, overBudget, noneWithinLimit, sharedFewest}
+use Rattle.refusal.specs.Refusals.{refusal, overBudget}
 use Rattle.frame.specs.Symbols.{receivedBits}
 use Rattle.frame.specs.Answer.{small, firstLarge}
-use Rattle.distance.specs.Prefixes.{wordDisagreements, liveCount}
-use Rattle.distance.specs.Nearest.{fewest, sharing, nearest, OnlyNearest}
+use Rattle.distance.specs.Prefixes.{liveCount}
+use Rattle.distance.specs.Nearest.{fewest, sharing, nearest}
 use Rattle.distance.proofs.NearestLaws.{fewest-only, sharing-only, nearest-only, only-nearest}
-use Rattle.repair.specs.Answer.{firstBadBound, unsyncedIn, nearestOf, nearestWithin, searched, repaired, repairNumbers}
+use Rattle.repair.specs.Answer.{firstBadBound, nearestOf, nearestWithin, searched, repaired, repairNumbers}
 use Rattle.repair.specs.Demand.{Symbols, Bounds, IsNearest, Demanded}
 use Rattle.repair.specs.declared.Nearest.{Nearest}
 use Rattle.repair.specs.declared.Repaired.{Repaired}
@@ -97,9 +95,13 @@ module _ (frame : List ℕ) (limit budget : ℕ) where
   unfolding nearestOf
   is-nearest n is =
       let only = is .only-nearest in
-      let few = fewest-only received (n .word) only in
-      (omega (arith, few, is .its-disagreements, is .within-limit), (omega (arith, sharing-only received (n .word) only),
-      rw (nearest-only received (n .word) only, few, ← is .its-disagreements, ← is .live-count, ← is .wrong-sync)))
+      let few = fewest-only received (n .word) only in (
+        omega (arith, few, is .its-disagreements, is .within-limit),
+        (
+          omega (arith, sharing-only received (n .word) only),
+          rw (nearest-only received (n .word) only, few, ← is .its-disagreements, ← is .live-count, ← is .wrong-sync),
+        ),
+      )
 
   pub demanded : Symbols frame → Bounds limit budget → Demanded frame limit budget (repaired frame limit budget)
   demanded form bounds =
@@ -107,9 +109,10 @@ module _ (frame : List ℕ) (limit budget : ℕ) where
       (record {
         out-of-budget = (over-searched, searched-over);
         answered =
-            λ n.
-            (λ e. let found = word-searched n e in (found .0, nearest-is n (found .1 .0) (found .1 .1 .0) (found .1 .1 .1)),
-            λ given.
-            let found = is-nearest n (given .1) in
-            searched-word (given .0) (found .0) (found .1 .0) ∙ ap Repaired.Word (found .1 .1));
+            λ n. (
+              λ e. let found = word-searched n e in (found .0, nearest-is n (found .1 .0) (found .1 .1 .0) (found .1 .1 .1)),
+              λ given.
+                  let found = is-nearest n (given .1) in
+                  searched-word (given .0) (found .0) (found .1 .0) ∙ ap Repaired.Word (found .1 .1),
+            );
       })

@@ -1,12 +1,11 @@
 -- Flipped data bits: counted in frame order they are the sent word's disagreements in S order; and two of them at most are healed.
 use mathlib.Core.Path.{_≡_, refl, sym, ap, ap₂, _∙_}
-use Prim.Native.Nat.{ℕ, _+_, _/_, _^_, _≤_, _<_}
+use Prim.Native.Nat.{ℕ, _^_, _≤_, _<_}
 use native.Mathlib.Omega.{arith}
-use mathlib.Core.Bool.{Bool, not, cond}
+use mathlib.Core.Bool.{Bool, not}
 use mathlib.Core.List.{List}
 use lib.Dec.{eqb}
-use lib.ListN.{length, getD}
-use Rattle.basics.specs.Below.{countBelow}
+use lib.ListN.{getD}
 use Rattle.basics.proofs.BelowLaws.{count-same, count-reordered}
 use Rattle.convolution.specs.Code.{codedBits}
 use Rattle.convolution.proofs.CodeLaws.{length-codedBits}
@@ -14,15 +13,14 @@ use Rattle.interleaver.specs.Places.{placeOf, orderOf}
 use Rattle.interleaver.proofs.PlaceLaws.{placeOf-below, orderOf-below, orderOf-placeOf, placeOf-orderOf}
 use Rattle.frame.specs.Symbols.{frameOf, receivedBits}
 use Rattle.frame.proofs.SymbolLaws.{length-receivedBits, getD-receivedBits, received-frameOf}
-use Rattle.distance.specs.Prefixes.{differences, wordDisagreements, liveCount}
+use Rattle.distance.specs.Prefixes.{wordDisagreements, liveCount}
 use Rattle.distance.specs.Nearest.{OnlyNearest}
 use Rattle.distance.proofs.Bits.{differences-sym, differences-counted}
 use Rattle.distance.proofs.PrefixLaws.{word-disagreements}
 use Rattle.distance.proofs.ZeroWord.{flipped-most, others-further}
 use Rattle.repair.specs.Answer.{unsyncedIn, repaired}
-use Rattle.repair.specs.Demand.{Symbols, Bounds, IsNearest, Demanded, dataAt, flips, sentWord, TwoFlipsHealed}
+use Rattle.repair.specs.Demand.{Symbols, Bounds, dataAt, flips, sentWord, TwoFlipsHealed}
 use Rattle.repair.specs.declared.Nearest.{Nearest}
-use Rattle.repair.specs.declared.Repaired.{Repaired}
 use Rattle.repair.proofs.AnswerLaws.{demanded}
 
 module _ (word : ℕ) (frame : List ℕ) where
@@ -68,9 +66,10 @@ module _ (word : ℕ) (frame : List ℕ) where
     healed budget enough most form =
         let bounds : Bounds 2 budget = record { limit-to-12 = omega arith; budget-from-1 = omega arith; budget-to-65536 = most } in
         let sent : Nearest = record { word = word; disagreements = flips word frame; live = liveCount received 2; unsynced = unsyncedIn frame } in
-        demanded frame 2 budget form bounds .answered sent .1
-        (omega (arith, live-most),
-        record { only-nearest = others-more; its-disagreements = flips-disagreements; within-limit = few; live-count = refl; wrong-sync = refl })
+        demanded frame 2 budget form bounds .answered sent .1 (
+          omega (arith, live-most),
+          record { only-nearest = others-more; its-disagreements = flips-disagreements; within-limit = few; live-count = refl; wrong-sync = refl },
+        )
 
 pub two-flips-healed : TwoFlipsHealed
 two-flips-healed word frame h form few = healed word frame h few 16_000 (omega arith) (omega arith) form
