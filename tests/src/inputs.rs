@@ -1,5 +1,6 @@
-// Random messages, words and telemetry: legal ones, and such as are refused.
-use crate::reference::message::{word_of, Message, CALLSIGNS, CHARACTERS, LOCATORS, POWERS};
+// Random messages, words, frames and telemetry: legal ones, and such as are refused.
+use crate::reference::frame::{frame_of, FRAME_LEN};
+use crate::reference::message::{word_of, Message, CALLSIGNS, CHARACTERS, LOCATORS, POWERS, WORDS};
 use crate::reference::telemetry::Telemetry;
 use crate::rng::Rng;
 
@@ -77,6 +78,49 @@ pub fn bad_low(rng: &mut Rng) -> u64 {
             return low;
         }
     }
+}
+
+pub fn random_word(rng: &mut Rng) -> u64 {
+    rng.below(WORDS)
+}
+
+pub fn random_frame(rng: &mut Rng) -> [u8; FRAME_LEN] {
+    frame_of(random_word(rng))
+}
+
+/// Words at the ends, with a single bit, and without a single bit.
+pub fn edge_words() -> Vec<u64> {
+    let mut words = vec![0, WORDS - 1];
+    words.extend((0..50).map(|bit| 1 << bit));
+    words.extend((0..50).map(|bit| WORDS - 1 - (1 << bit)));
+    words
+}
+
+/// All lengths but a frame's own up to about twice that, and some longer ones: 418 and 674
+/// have its lowest 8 bits, the last two its lowest 16.
+pub fn wrong_lengths() -> impl Iterator<Item = usize> {
+    (0..=330).filter(|&len| len != FRAME_LEN).chain([418, 674, 1000, 65_698, 131_234])
+}
+
+/// The frame's symbols, cut off at this length or followed by others up to it.
+pub fn resized(rng: &mut Rng, frame: &[u8], len: usize) -> Vec<u8> {
+    let mut symbols = frame.to_vec();
+    symbols.resize_with(len, || rng.below(4) as u8);
+    symbols
+}
+
+/// So many different places of a frame.
+pub fn random_places(rng: &mut Rng, count: usize) -> Vec<usize> {
+    let mut places: Vec<usize> = (0..FRAME_LEN).collect();
+    for index in 0..count {
+        places.swap(index, rng.between(index as u64, FRAME_LEN as u64 - 1) as usize);
+    }
+    places.truncate(count);
+    places
+}
+
+pub fn bad_symbol(rng: &mut Rng) -> u8 {
+    rng.between(4, 255) as u8
 }
 
 /// Inputs in their ranges, in the units in which they are written.

@@ -6,8 +6,9 @@ use wsprcard_tests::answers::{
 use wsprcard_tests::card;
 use wsprcard_tests::counts::Counts;
 use wsprcard_tests::inputs::{
-    bad_character, bad_power, bad_word, legal_bytes, random_characters, random_legal_word,
-    random_message, spoil,
+    bad_character, bad_power, bad_symbol, bad_word, edge_words, legal_bytes, random_characters,
+    random_frame, random_legal_word, random_message, random_places, random_word, resized, spoil,
+    wrong_lengths,
 };
 use wsprcard_tests::lent::Lent;
 use wsprcard_tests::reference::frame::{self as reference, CLOCKED, FRAME_LEN};
@@ -180,49 +181,6 @@ fn read(word: u64) -> card::Word {
 
 fn refused(refusal: u32, place: u32) -> card::Written {
     card::Written { refusal, place }
-}
-
-fn random_word(rng: &mut Rng) -> u64 {
-    rng.below(WORDS)
-}
-
-fn random_frame(rng: &mut Rng) -> Frame {
-    reference::frame_of(random_word(rng))
-}
-
-/// Words at the ends, with a single bit, and without a single bit.
-fn edge_words() -> Vec<u64> {
-    let mut words = vec![0, WORDS - 1];
-    words.extend((0..50).map(|bit| 1 << bit));
-    words.extend((0..50).map(|bit| WORDS - 1 - (1 << bit)));
-    words
-}
-
-/// All others up to about twice the right length, and some longer ones: 418 and 674 have its
-/// lowest 8 bits, the last two its lowest 16.
-fn wrong_lengths() -> impl Iterator<Item = usize> {
-    (0..=330).filter(|&len| len != FRAME_LEN).chain([418, 674, 1000, 65_698, 131_234])
-}
-
-/// The frame's symbols, cut off at this length or followed by others up to it.
-fn resized(rng: &mut Rng, frame: &[u8], len: usize) -> Vec<u8> {
-    let mut symbols = frame.to_vec();
-    symbols.resize_with(len, || rng.below(4) as u8);
-    symbols
-}
-
-/// So many different places of a frame.
-fn random_places(rng: &mut Rng, count: usize) -> Vec<usize> {
-    let mut places: Vec<usize> = (0..FRAME_LEN).collect();
-    for index in 0..count {
-        places.swap(index, rng.between(index as u64, FRAME_LEN as u64 - 1) as usize);
-    }
-    places.truncate(count);
-    places
-}
-
-fn bad_symbol(rng: &mut Rng) -> u8 {
-    rng.between(4, 255) as u8
 }
 
 /// Symbols that reading refuses by this number. Numbers 4, 5 and 6 are those of the word in
