@@ -7,11 +7,11 @@ pub const FRAME_LEN: usize = 162;
 
 /// How many bits are clocked into each register: the word's 50, then 31 zeros.
 pub const CLOCKED: usize = 81;
-const ZEROS: usize = 31;
+pub const ZEROS: usize = 31;
 
 /// The masks of the two registers. Bit j of a mask takes the bit that was clocked in j steps
 /// before the newest.
-const MASKS: [u32; 2] = [0xf2d0_5351, 0xe461_3c47];
+pub const MASKS: [u32; 2] = [0xf2d0_5351, 0xe461_3c47];
 
 /// The sync vector in the rows of its table, whose "0.0" near the end is two zeros.
 const SYNC: [u8; FRAME_LEN] = *b"\
@@ -41,9 +41,7 @@ pub fn write_message(
 
 pub fn read_word(frame: &[u8]) -> Result<u64, Refusal> {
     check_length(frame.len())?;
-    if let Some(place) = frame.iter().position(|&symbol| symbol > 3) {
-        return Err(Refusal { number: 7, place: place as u32 });
-    }
+    check_symbols(frame)?;
     if let Some(place) = frame.iter().zip(sync()).position(|(symbol, bit)| symbol % 2 != bit) {
         return Err(Refusal { number: 8, place: place as u32 });
     }
@@ -63,11 +61,18 @@ pub fn read_message(
     message::unpack(read_word(frame)?, callsign_len, locator_len)
 }
 
-fn check_length(frame_len: usize) -> Result<(), Refusal> {
+pub fn check_length(frame_len: usize) -> Result<(), Refusal> {
     if frame_len == FRAME_LEN {
         Ok(())
     } else {
         Err(Refusal { number: 1, place: 0 })
+    }
+}
+
+pub fn check_symbols(frame: &[u8]) -> Result<(), Refusal> {
+    match frame.iter().position(|&symbol| symbol > 3) {
+        None => Ok(()),
+        Some(place) => Err(Refusal { number: 7, place: place as u32 }),
     }
 }
 

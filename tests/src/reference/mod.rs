@@ -2,6 +2,7 @@
 pub mod frame;
 pub mod lines;
 pub mod message;
+pub mod repair;
 pub mod telemetry;
 
 /// Why an input is refused: the number of the refusal table and the place it names.
