@@ -13,7 +13,7 @@ use Rattle.distance.specs.Nearest.{fewest, hasFewest, sharing, nearest, 
 module _ (received : List ℕ) where
   pub fewest-below : (word : ℕ) → word < 2 ^ 50 → fewest received ≤ wordDisagreements received word
   unfolding fewest
-  fewest-below word h = least-below (2 ^ 50 - 1) (wordDisagreements received) word (omega arith)
+  fewest-below word h = least-below _ (wordDisagreements received) word (omega arith)
 
   -- One word at least has the fewest.
   fewest-reached : (word : ℕ) × ((word < 2 ^ 50) × (wordDisagreements received word ≡ fewest received))

@@ -33,16 +33,7 @@ module _ (frame : List ℕ) (limit budget : ℕ) where
   abbrev received : List ℕ
   received = receivedBits frame
 
-  -- ---- One law for each case
-
-  pub searched-over : budget < liveCount received limit → searched frame limit budget ≡ Repaired.Refused (refusal overBudget 0)
-  unfolding searched
-  searched-over over = rw (lt-ltb budget (liveCount received limit) over)
-
-  pub searched-word : liveCount received limit ≤ budget → fewest received ≤ limit → sharing received ≤ 1
-      → searched frame limit budget ≡ Repaired.Word (nearestOf frame limit)
-  unfolding searched nearestWithin
-  searched-word within near one = rw (le-ltb budget (liveCount received limit) within, le-ltb limit (fewest received) near, le-ltb 1 (sharing received) one)
+  -- ---- Where the symbols, the limit and the budget are as they should be
 
   no-bad-bound : Bounds limit budget → firstBadBound limit budget ≡ 2
   unfolding firstBadBound firstFailing
@@ -58,7 +49,27 @@ module _ (frame : List ℕ) (limit budget : ℕ) where
   unfolding repaired
   repaired-searched form bounds = rw (eq-eqb (length frame) 162 (form .right-length), no-bad-bound bounds, none-large form)
 
-  -- ---- Back from the answer
+  -- ---- The word, and when it is answered
+
+  pub searched-word : liveCount received limit ≤ budget → fewest received ≤ limit → sharing received ≤ 1
+      → searched frame limit budget ≡ Repaired.Word (nearestOf frame limit)
+  unfolding searched nearestWithin
+  searched-word within near one = rw (le-ltb budget (liveCount received limit) within, le-ltb limit (fewest received) near, le-ltb 1 (sharing received) one)
+
+  word-searched : (n : Nearest) → searched frame limit budget ≡ Repaired.Word n
+      → (liveCount received limit ≤ budget) × ((fewest received ≤ limit) × ((sharing received ≤ 1) × (nearestOf frame limit ≡ n)))
+  unfolding searched nearestWithin
+  word-searched n e =
+      let budgeted = cond-passed (ltb budget (liveCount received limit)) e (refused-not-word _ n) in
+      let near = cond-passed (ltb limit (fewest received)) (budgeted .1) (refused-not-word _ n) in
+      let one = cond-passed (ltb 1 (sharing received)) (near .1) (refused-not-word _ n) in
+      (ltb-false _ _ (budgeted .0), (ltb-false _ _ (near .0), (ltb-false _ _ (one .0), word-same _ n (one .1))))
+
+  -- ---- Out of budget
+
+  pub searched-over : budget < liveCount received limit → searched frame limit budget ≡ Repaired.Refused (refusal overBudget 0)
+  unfolding searched
+  searched-over over = rw (lt-ltb budget (liveCount received limit) over)
 
   not-over : repairNumbers (nearestWithin frame limit) .number ≡ overBudget → ⊥
   unfolding nearestWithin repairNumbers
@@ -71,15 +82,6 @@ module _ (frame : List ℕ) (limit budget : ℕ) where
   over-searched e =
       ltb-true _ _
       (cond-held (ltb budget (liveCount received limit)) e (λ same. not-over (ap (λ (a : Repaired). repairNumbers a .number) same)) .0)
-
-  word-searched : (n : Nearest) → searched frame limit budget ≡ Repaired.Word n
-      → (liveCount received limit ≤ budget) × ((fewest received ≤ limit) × ((sharing received ≤ 1) × (nearestOf frame limit ≡ n)))
-  unfolding searched nearestWithin
-  word-searched n e =
-      let budgeted = cond-passed (ltb budget (liveCount received limit)) e (refused-not-word _ n) in
-      let near = cond-passed (ltb limit (fewest received)) (budgeted .1) (refused-not-word _ n) in
-      let one = cond-passed (ltb 1 (sharing received)) (near .1) (refused-not-word _ n) in
-      (ltb-false _ _ (budgeted .0), (ltb-false _ _ (near .0), (ltb-false _ _ (one .0), word-same _ n (one .1))))
 
   -- ---- The demand
 
