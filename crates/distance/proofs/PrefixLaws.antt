@@ -26,7 +26,7 @@ free-later : (k : ℕ) → 50 ≤ k → freeOf k ≡ 50
 unfolding freeOf
 free-later k h = omega arith
 
-pub free-most : (k : ℕ) → freeOf k ≤ k
+free-most : (k : ℕ) → freeOf k ≤ k
 unfolding freeOf
 free-most k = omega arith
 
@@ -56,7 +56,7 @@ module _ (k word : ℕ) where
       let bits = bitsOf 50 word in
       let zeros : List ℕ = replicate (k - 50) 0 in
       let rest : List ℕ = replicate (81 - k) 0 in
-      let tail : zeros ++ rest ≡ replicate 31 0 = replicate-append-replicate (k - 50) (81 - k) 0 ∙ ap (λ (n : ℕ). replicate n 0) all in
+      let tail : zeros ++ rest ≡ replicate 31 0 = rw all at (replicate-append-replicate {A = ℕ} (k - 50) (81 - k) 0) in
       let size : k ≡ length (bits ++ zeros) =
       omega (arith, length-append bits zeros, length-bitsOf 50 word, length-replicate {A = ℕ} (k - 50) 0) in
       rw (none, free-later k (omega arith), div-one word, ← tail, ← append-assoc bits zeros rest)
