@@ -376,6 +376,44 @@ fn pruning_loses_no_live_prefix() {
     }
 }
 
+/// How many live prefixes begin with this one and are longer. Each is coded anew, from its first
+/// bit, by the definition; nothing is carried along, as the search does.
+fn longer_live(prefix: &mut Vec<u8>, received: &[u8], limit: u32) -> u64 {
+    if prefix.len() == CLOCKED {
+        return 0;
+    }
+    let mut live = 0;
+    for bit in 0..if prefix.len() < WSPR.word_bits { 2 } else { 1 } {
+        prefix.push(bit);
+        if WSPR.disagreements(prefix, received) <= limit {
+            live += 1 + longer_live(prefix, received, limit);
+        }
+        prefix.pop();
+    }
+    live
+}
+
+/// Damaged frames and noise, where the zero word's counts don't tell what to expect.
+#[test]
+fn damaged_frames_have_the_live_counts_of_the_definition() {
+    let mut rng = Rng::new(28);
+    let mut dead = 0;
+    for turn in 0..600 {
+        let limit = turn as u32 % 6;
+        let frame = if turn % 7 == 0 {
+            let noise: Vec<u8> = (0..FRAME_LEN).map(|_| rng.below(4) as u8).collect();
+            noise.try_into().expect("162 symbols")
+        } else {
+            let flips = random_places(&mut rng, turn % 9);
+            flipped(random_frame(&mut rng), &flips)
+        };
+        let live = longer_live(&mut Vec::new(), &data_bits(&frame), limit);
+        assert_eq!(live_count(&frame, limit), live, "{frame:?} limit {limit}");
+        dead += u32::from(live < CLOCKED as u64);
+    }
+    assert!(dead >= 50, "{dead} frames without a word within the limit");
+}
+
 // Flips
 
 /// Demand 3: every way of flipping up to two data bits, with any damage to the sync bits.

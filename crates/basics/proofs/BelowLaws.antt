@@ -141,6 +141,32 @@ count-two (suc n) t i j h k e f =
     (λ last. let here : t n ≡ true = rw last at f in omega (arith, count-last n t here, count-one n t i (omega arith) e))
     (λ before. omega (arith, count-two n t i j h (omega arith) e f, count-more n t))
 
+-- What is counted is found.
+count-skipped : (n : ℕ) (t : ℕ → Bool) → t n ≡ false → countBelow (suc n) t ≡ countBelow n t
+unfolding countBelow sumBelow
+count-skipped n t e = rw e (add-zero (sumBelow n (λ i. cond (t i) 1 0)))
+
+pub count-found : (n : ℕ) (t : ℕ → Bool) → 1 ≤ countBelow n t → (i : ℕ) × ((i < n) × (t i ≡ true))
+count-found zero t h = absurd (omega (arith, count-none 0 t (λ i k. absurd (omega arith))))
+count-found (suc n) t h =
+    by-test (t n)
+    (λ passed. (n, (omega arith, passed)))
+    (λ failed.
+    let found = count-found n t (omega (arith, count-skipped n t failed)) in
+    (found .0, (omega (arith, found .1 .0), found .1 .1)))
+
+pub count-found-two : (n : ℕ) (t : ℕ → Bool) → 2 ≤ countBelow n t
+    → (i : ℕ) × ((j : ℕ) × ((i < j) × ((j < n) × ((t i ≡ true) × (t j ≡ true)))))
+count-found-two zero t h = absurd (omega (arith, count-none 0 t (λ i k. absurd (omega arith))))
+count-found-two (suc n) t h =
+    by-test (t n)
+    (λ passed.
+    let found = count-found n t (omega (arith, count-last n t passed)) in
+    (found .0, (n, (found .1 .0, (omega arith, (found .1 .1, passed))))))
+    (λ failed.
+    let found = count-found-two n t (omega (arith, count-skipped n t failed)) in
+    (found .0, (found .1 .0, (found .1 .1 .0, (omega (arith, found .1 .1 .1 .0), found .1 .1 .1 .1)))))
+
 -- Where no two are counted, only one passes.
 pub count-only : (n : ℕ) (t : ℕ → Bool) → countBelow n t ≤ 1 → (i j : ℕ) → i < n → j < n → t i ≡ true → t j ≡ true → i ≡ j
 count-only n t one i j h k e f =

@@ -6,7 +6,7 @@ use native.Mathlib.Omega.{arith}
 use mathlib.Core.Bool.{Bool, true, false, cond, not}
 use mathlib.Core.List.{List, [], _∷_, _++_}
 use lib.Dec.{eqb}
-use lib.ListN.{length, getD, take, replicate}
+use lib.ListN.{length, getD, replicate}
 use borrow.Author.Tests.{eq-eqb, ne-eqb}
 use Rattle.basics.specs.Below.{countBelow}
 use Rattle.basics.proofs.BelowLaws.{count-first, count-none}
@@ -32,12 +32,6 @@ pub bits-zeros : (n : ℕ) → AllBits (replicate n 0)
 unfolding AllBits
 bits-zeros zero = tt
 bits-zeros (suc n) = (omega arith, bits-zeros n)
-
-pub bits-take : (n : ℕ) (xs : List ℕ) → AllBits xs → AllBits (take n xs)
-unfolding AllBits
-bits-take zero xs h = tt
-bits-take (suc n) [] h = tt
-bits-take (suc n) (x ∷ xs) h = (h .0, bits-take n xs (h .1))
 
 bits-digits : (n : ℕ) (xs : List ℕ) → Digits (replicate n 2) xs → AllBits xs
 unfolding AllBits Digits

@@ -41,11 +41,7 @@ differ-small (suc zero) (suc (suc y)) h k = absurd (omega arith)
 differ-small (suc (suc x)) y h k = absurd (omega arith)
 
 xor-half : (a b : ℕ) → bitXor a b / 2 ≡ bitXor (a / 2) (b / 2)
-xor-half a b =
-    let rest = bitXor (a / 2) (b / 2) in
-    let lowest = differ (a % 2) (b % 2) in
-    let small : lowest < 2 = omega (arith, differ-small (a % 2) (b % 2) (mod-lt a (omega arith)) (mod-lt b (omega arith))) in
-    rw (xor-step a b) (omega arith)
+xor-half a b = xor-shr a b 1
 
 xor-odd : (a b : ℕ) → bitXor a b % 2 ≡ differ (a % 2) (b % 2)
 xor-odd a b =

@@ -1,19 +1,20 @@
 -- Laws of prefixes: the prefixes of a word, and what a longer prefix adds.
-use mathlib.Core.Path.{_≡_, refl, ap, _∙_}
-use Prim.Native.Nat.{ℕ, zero, suc, _+_, _-_, _/_, _^_, _≤_, _<_}
+use mathlib.Core.Path.{_≡_, refl, sym, ap, _∙_}
+use Prim.Native.Nat.{ℕ, zero, suc, _+_, _-_, _*_, _/_, _^_, _≤_, _<_}
 use native.Mathlib.Nat.{add-comm, div-one}
 use native.Mathlib.Omega.{arith}
 use mathlib.Core.Bool.{true}
 use mathlib.Core.List.{List, [], _∷_, _++_, append-nil, append-assoc}
 use lib.ListN.{length, take, replicate, length-append, length-replicate, replicate-append-replicate}
-use lib.Pow.{shr-shr}
+use lib.Pow.{shl-shr, shr-shr}
 use lib.Seq.{take-append-le, take-append-seam}
 use borrow.Author.Tests.{le-leb, leb-true}
 use Rattle.basics.proofs.Choice.{below-or-not}
-use Rattle.radix.specs.Numeral.{digitsOf}
+use Rattle.radix.specs.Numeral.{numberOf, digitsOf}
+use Rattle.radix.proofs.Laws.{numberOf-digitsOf}
 use Rattle.convolution.specs.Code.{bitsOf, clockedBits, clocked, firstMask, secondMask, codedFrom, codedBits}
-use Rattle.convolution.proofs.CodeLaws.{count-bits, length-bitsOf, parity-below}
-use Rattle.distance.specs.Prefixes.{freeOf, prefixBits, differences, disagreements, wordDisagreements, isLive}
+use Rattle.convolution.proofs.CodeLaws.{count-bits, positive-bits, length-bitsOf, parity-below}
+use Rattle.distance.specs.Prefixes.{freeOf, prefixBits, prefixesOf, differences, disagreements, wordDisagreements, isLive}
 use Rattle.distance.proofs.Bits.{AllBits, differences-grow}
 
 -- ---- The prefixes of a word
@@ -65,6 +66,21 @@ module _ (k word : ℕ) where
 -- "the first k of the 81 clocked bits"
 pub prefix-of-word : (k word : ℕ) → k ≤ 81 → take k (clockedBits word) ≡ prefixBits k (word / 2 ^ (50 - k))
 prefix-of-word k word h = below-or-not 50 k (λ later. prefix-later k word later h) (prefix-first k word)
+
+-- Every number is that of a word's prefix, and different numbers are those of different prefixes.
+pub prefix-of-number : (k number : ℕ) → k ≤ 81 → prefixBits k number ≡ take k (clockedBits (number * 2 ^ (50 - k)))
+prefix-of-number k number h = ap (prefixBits k) (sym (shl-shr number (50 - k))) ∙ sym (prefix-of-word k (number * 2 ^ (50 - k)) h)
+
+pub prefixBits-injective : (k m n : ℕ) → m < prefixesOf k → n < prefixesOf k → prefixBits k m ≡ prefixBits k n → m ≡ n
+unfolding prefixesOf prefixBits bitsOf
+prefixBits-injective k m n h l e = sym (number m h) ∙ ap (numberOf (replicate (freeOf k) 2)) (sym (free m) ∙ ap (take (freeOf k)) e ∙ free n) ∙ number n l
+  where
+    free : (i : ℕ) → take (freeOf k) (prefixBits k i) ≡ bitsOf (freeOf k) i
+    free i =
+        rw (length-bitsOf (freeOf k) i) at (take-append-seam (bitsOf (freeOf k) i) (replicate (k - freeOf k) 0))
+
+    number : (i : ℕ) → i < 2 ^ freeOf k → numberOf (replicate (freeOf k) 2) (bitsOf (freeOf k) i) ≡ i
+    number i below = numberOf-digitsOf (replicate (freeOf k) 2) (positive-bits (freeOf k)) (rw (count-bits (freeOf k)) below)
 
 pub length-prefixBits : (k number : ℕ) → length (prefixBits k number) ≡ k
 unfolding prefixBits

@@ -1,5 +1,5 @@
 -- The nearest word: "the one with the fewest disagreements of all 2^50" (01, 'Repair').
-use Prim.Native.Nat.{ℕ, _-_, _^_, _<_}
+use Prim.Native.Nat.{ℕ, _-_, _^_, _≤_, _<_}
 use mathlib.Core.Path.{_≡_}
 use mathlib.Core.Bool.{Bool}
 use mathlib.Core.List.{List}
@@ -22,6 +22,11 @@ sharing received = countBelow (2 ^ 50) (hasFewest received)
 -- The word that has them, where only one does.
 unfoldable pub nearest : List ℕ → ℕ
 nearest received = lastBelow (2 ^ 50) (hasFewest received)
+
+-- The word has "the fewest disagreements of all 2^50".
+abbrev pub AtMostAll : List ℕ → ℕ → Type 0
+AtMostAll received word =
+    (word < 2 ^ 50) × ((other : ℕ) → other < 2 ^ 50 → wordDisagreements received word ≤ wordDisagreements received other)
 
 -- "every other 50-bit word has more disagreements"
 abbrev pub OnlyNearest : List ℕ → ℕ → Type 0

@@ -1,5 +1,5 @@
--- Prefixes of the clocked bits, their disagreements with the received data bits, and the live count (01, 'Repair'). `received` stands for
--- the received data bits in S order.
+-- Prefixes of the clocked bits, their disagreements with the received data bits, and the live count (01, 'Repair'). The prefixes are the
+-- nodes of the code tree, the live ones those within the distance limit. `received` stands for the received data bits in S order.
 use Prim.Native.Nat.{ℕ, _+_, _-_, _^_, min}
 use mathlib.Core.Bool.{Bool, cond}
 use mathlib.Core.List.{List, [], _∷_, _++_}
@@ -21,13 +21,13 @@ prefixBits k number = bitsOf (freeOf k) number ++ replicate (k - freeOf k) 0
 unfoldable pub prefixesOf : ℕ → ℕ
 prefixesOf k = 2 ^ freeOf k
 
--- In how many of the places that both lists have they differ: the Hamming distance.
+-- In how many of the places that both lists have they differ.
 unfoldable pub differences : List ℕ → List ℕ → ℕ
 differences [] ys = 0
 differences (x ∷ xs) [] = 0
 differences (x ∷ xs) (y ∷ ys) = cond (eqb x y) 0 1 + differences xs ys
 
--- "Its disagreements are the number of its 2k coded bits that differ from the received data bits"
+-- "Its disagreements are the number of its 2k coded bits that differ from the received data bits": its Hamming distance to them.
 unfoldable pub disagreements : List ℕ → List ℕ → ℕ
 disagreements received bits = differences (codedFrom 0 0 bits) received
 

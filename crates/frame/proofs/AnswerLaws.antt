@@ -138,7 +138,7 @@ module _ (frame : List ℕ) where
   -- A frame of the right form is read by its data bits.
   pub read-form : RightForm frame → wordRead frame ≡ wordOfData frame
   read-form form =
-      read-data (form .right-length) (omega (arith, none-large frame form)) (omega (arith, none-wrong frame form))
+      read-data (form .right-symbols .right-length) (omega (arith, none-large frame (form .right-symbols))) (omega (arith, none-wrong frame form))
 
   pub word-of-read : (word : ℕ) → wordRead frame ≡ Read.Word word → (word < 2 ^ 50) × (frameOf word ≡ frame)
   unfolding wordRead wordOfData

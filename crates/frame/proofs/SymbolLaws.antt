@@ -15,7 +15,7 @@ use Rattle.convolution.proofs.CodeLaws.{length-codedBits, codedBits-below}
 use Rattle.convolution.proofs.DecodingLaws.{decode-encode}
 use Rattle.interleaver.specs.Places.{placeOf, orderOf}
 use Rattle.interleaver.proofs.PlaceLaws.{placeOf-below, orderOf-below, orderOf-placeOf, placeOf-orderOf}
-use Rattle.frame.specs.Symbols.{syncVector, syncAt, symbolAt, frameOf, receivedBits}
+use Rattle.frame.specs.Symbols.{syncVector, syncAt, symbolAt, frameOf, RightSymbols, receivedBits}
 use Rattle.frame.specs.Answer.{small, firstLarge, synced, firstWrongSync}
 use Rattle.frame.specs.RoundTrip.{RightForm}
 
@@ -55,8 +55,11 @@ getD-frameOf word place h = getD-tabulate 162 (symbolAt (codedBits word)) place 
 pub frame-right-form : (word : ℕ) → RightForm (frameOf word)
 frame-right-form word =
     record {
-      right-length = length-frameOf word;
-      symbols-to-3 = λ place h. rw (getD-frameOf word place h) (symbol-to-3 word place);
+      right-symbols =
+          record {
+            right-length = length-frameOf word;
+            symbols-to-3 = λ place h. rw (getD-frameOf word place h) (symbol-to-3 word place);
+          };
       right-sync = λ place h. rw (getD-frameOf word place h) (symbol-sync word place);
     }
 
@@ -92,7 +95,7 @@ frameOf-injective v w h k e =
 pub frame-by-data : (word : ℕ) (frame : List ℕ) → RightForm frame → codedBits word ≡ receivedBits frame → frameOf word ≡ frame
 unfolding symbolAt
 frame-by-data word frame form e =
-    ext-getD 0 (frameOf word) frame (length-frameOf word ∙ sym (form .right-length))
+    ext-getD 0 (frameOf word) frame (length-frameOf word ∙ sym (form .right-symbols .right-length))
     (λ place h.
     let within : place < 162 = omega (arith, length-frameOf word) in
     let index : orderOf place < 162 = orderOf-below place within in
@@ -110,22 +113,22 @@ module _ (frame : List ℕ) where
   unfolding firstLarge firstWrongSync
   form-of-tests e large wrong =
       record {
-        right-length = e;
-        symbols-to-3 = λ place h. leb-true _ _ (passes-at small 0 frame (rw e large) place (omega arith));
+        right-symbols =
+            record {
+              right-length = e;
+              symbols-to-3 = λ place h. leb-true _ _ (passes-at small 0 frame (rw e large) place (omega arith));
+            };
         right-sync =
             λ place h. eqb-true _ _ (passes-at synced 0 frame (rw e wrong) place (omega arith));
       }
 
-  module _ (form : RightForm frame) where
-    pub none-large : firstLarge frame ≡ 162
-    unfolding firstLarge
-    none-large =
-        passes-each small 0 frame (λ place h. le-leb _ _ (form .symbols-to-3 place (omega (arith, form .right-length))))
-        ∙ form .right-length
+  pub none-large : RightSymbols frame → firstLarge frame ≡ 162
+  unfolding firstLarge
+  none-large right =
+      passes-each small 0 frame (λ place h. le-leb _ _ (right .symbols-to-3 place (omega (arith, right .right-length)))) ∙ right .right-length
 
-    pub none-wrong : firstWrongSync frame ≡ 162
-    unfolding firstWrongSync
-    none-wrong =
-        passes-each synced 0 frame
-        (λ place h. eq-eqb _ _ (form .right-sync place (omega (arith, form .right-length))))
-        ∙ form .right-length
+  pub none-wrong : RightForm frame → firstWrongSync frame ≡ 162
+  unfolding firstWrongSync
+  none-wrong form =
+      let long = form .right-symbols .right-length in
+      passes-each synced 0 frame (λ place h. eq-eqb _ _ (form .right-sync place (omega arith))) ∙ long

@@ -1,6 +1,6 @@
 -- What writing and strictly reading a frame promise of each other (demand 2): the round trips, and that each reader refuses exactly the
 -- frames that its matching writer never makes.
-use Prim.Native.Nat.{ℕ, _≤_, _<_, _%_, _^_}
+use Prim.Native.Nat.{ℕ, _<_, _%_, _^_}
 use mathlib.Core.Path.{_≡_}
 use mathlib.Core.Logic.{_↔_}
 use mathlib.Core.List.{List}
@@ -8,7 +8,7 @@ use lib.ListN.{length, getD}
 use Rattle.refusal.specs.Refusals.{refusal, noWord}
 use Rattle.message.specs.RoundTrip.{IsRefused}
 use Rattle.message.specs.declared.Given.{Given}
-use Rattle.frame.specs.Symbols.{syncAt, frameOf}
+use Rattle.frame.specs.Symbols.{syncAt, frameOf, RightSymbols}
 use Rattle.frame.specs.Answer.{wordWritten, messageWritten, frameAfterWord, frameAfterMessage, wordRead, messageRead, callsignRead, locatorRead}
 use Rattle.frame.specs.declared.Written.{Written}
 use Rattle.frame.specs.declared.Read.{Read}
@@ -50,8 +50,7 @@ WordRefusedExactly answer frame = ReadRefused answer ↔ NeverFromWord frame
 
 -- The frame has 162 symbols of 0 to 3 with the right sync bits.
 pub record RightForm (frame : List ℕ) : Type 0 where
-  pub right-length : length frame ≡ 162
-  pub symbols-to-3 : (place : ℕ) → place < 162 → getD frame place 0 ≤ 3
+  pub right-symbols : RightSymbols frame
   pub right-sync : (place : ℕ) → place < 162 → getD frame place 0 % 2 ≡ syncAt place
 
 -- "no 50-bit word has this frame"

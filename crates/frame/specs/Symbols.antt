@@ -1,7 +1,8 @@
 -- The symbols of a frame (01, 'Frame'): sync bits, data bits, and the frame of a word.
-use Prim.Native.Nat.{ℕ, _+_, _*_, _/_}
+use mathlib.Core.Path.{_≡_}
+use Prim.Native.Nat.{ℕ, _+_, _*_, _/_, _≤_, _<_}
 use mathlib.Core.List.{List, [], _∷_}
-use lib.ListN.{getD}
+use lib.ListN.{length, getD}
 use Rattle.basics.specs.Lists.{tabulate}
 use Rattle.convolution.specs.Code.{codedBits}
 use Rattle.interleaver.specs.Places.{placeOf, orderOf}
@@ -27,6 +28,15 @@ symbolAt coded place = syncAt place + 2 * getD coded (orderOf place) 0
 unfoldable pub frameOf : ℕ → List ℕ
 frameOf word = tabulate 162 (symbolAt (codedBits word))
 
--- Back from a frame: the data bits, "symbol divided by 2, rounded down, put back in S order".
+-- A frame has 162 symbols of 0 to 3.
+pub record RightSymbols (frame : List ℕ) : Type 0 where
+  pub right-length : length frame ≡ 162
+  pub symbols-to-3 : (place : ℕ) → place < 162 → getD frame place 0 ≤ 3
+
+-- The data bit at a place of a frame: "symbol divided by 2, rounded down".
+abbrev pub dataAt : List ℕ → ℕ → ℕ
+dataAt frame place = getD frame place 0 / 2
+
+-- Back from a frame: the data bits, "put back in S order".
 unfoldable pub receivedBits : List ℕ → List ℕ
-receivedBits frame = tabulate 162 (λ index. getD frame (placeOf index) 0 / 2)
+receivedBits frame = tabulate 162 (λ index. dataAt frame (placeOf index))

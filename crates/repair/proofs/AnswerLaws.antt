@@ -3,35 +3,40 @@ use mathlib.Core.Path.{_≡_, refl, ap, _∙_}
 use Prim.Native.Nat.{ℕ, _≤_, _<_}
 use native.Mathlib.Omega.{arith}
 use mathlib.Core.List.{List}
-use lib.Dec.{ltb}
 use lib.ListN.{length}
-use borrow.Author.Tests.{eq-eqb, lt-ltb, le-ltb, le-leb, ltb-true, ltb-false}
+use borrow.Author.Tests.{eq-eqb, lt-ltb, le-ltb, le-leb}
 use Rattle.basics.specs.Lists.{firstFailing}
-use Rattle.basics.proofs.Choice.{cond-passed, cond-held, cond-both, between-true}
-use Rattle.basics.proofs.ListLaws.{passes-each}
+use Rattle.basics.proofs.Choice.{between-true, below-or-not}
 use Rattle.refusal.specs.declared.Refusal.{Refusal}
-use Rattle.refusal.specs.Refusals.{refusal, overBudget}
-use Rattle.frame.specs.Symbols.{receivedBits}
-use Rattle.frame.specs.Answer.{small, firstLarge}
+use Rattle.refusal.specs.Refusals.{refusal, overBudget, noneWithinLimit, sharedFewest}
+use Rattle.frame.specs.Symbols.{RightSymbols, receivedBits}
+use Rattle.frame.proofs.SymbolLaws.{none-large}
 use Rattle.distance.specs.Prefixes.{liveCount}
 use Rattle.distance.specs.Nearest.{fewest, sharing, nearest}
-use Rattle.distance.proofs.NearestLaws.{fewest-only, sharing-only, nearest-only, only-nearest}
+use Rattle.distance.proofs.NearestLaws.{fewest-below, fewest-reached, fewest-is, fewest-only, sharing-only, nearest-only, only-nearest, sharing-two, two-sharing}
 use Rattle.repair.specs.Answer.{firstBadBound, nearestOf, nearestWithin, searched, repaired, repairNumbers}
-use Rattle.repair.specs.Demand.{Symbols, Bounds, IsNearest, Demanded}
+use Rattle.repair.specs.Demand.{Bounds, IsNearest, NoneWithin, Shared, AsDemanded}
 use Rattle.repair.specs.declared.Nearest.{Nearest}
 use Rattle.repair.specs.declared.Repaired.{Repaired}
+
+-- ---- Answers that differ
 
 refused-not-word : (f : Refusal) (n : Nearest) → Repaired.Refused f ≡ Repaired.Word n → ⊥
 refused-not-word f n e = let z : _≡_ {A = ℕ} 0 1 = cc in omega arith
 
--- Words that are the same answer are the same.
 word-same : (m n : Nearest) → Repaired.Word m ≡ Repaired.Word n → m ≡ n
 unfolding repairNumbers
 word-same m n e = ap (λ (a : Repaired). repairNumbers a .nearest) e
 
+number-same : (a b : Repaired) → a ≡ b → repairNumbers a .number ≡ repairNumbers b .number
+number-same a b e = ap (λ (a : Repaired). repairNumbers a .number) e
+
 module _ (frame : List ℕ) (limit budget : ℕ) where
   abbrev received : List ℕ
   received = receivedBits frame
+
+  abbrev live : ℕ
+  live = liveCount received limit
 
   -- ---- Where the symbols, the limit and the budget are as they should be
 
@@ -40,81 +45,152 @@ module _ (frame : List ℕ) (limit budget : ℕ) where
   no-bad-bound bounds =
       rw (le-leb limit 12 (bounds .limit-to-12), between-true 1 65_536 budget (bounds .budget-from-1) (bounds .budget-to-65536))
 
-  none-large : Symbols frame → firstLarge frame ≡ 162
-  unfolding firstLarge
-  none-large form =
-      passes-each small 0 frame (λ place h. le-leb _ _ (form .symbols-to-3 place (omega (arith, form .right-length)))) ∙ form .right-length
-
-  pub repaired-searched : Symbols frame → Bounds limit budget → repaired frame limit budget ≡ searched frame limit budget
+  pub repaired-searched : RightSymbols frame → Bounds limit budget → repaired frame limit budget ≡ searched frame limit budget
   unfolding repaired
-  repaired-searched form bounds = rw (eq-eqb (length frame) 162 (form .right-length), no-bad-bound bounds, none-large form)
+  repaired-searched right bounds = rw (eq-eqb (length frame) 162 (right .right-length), no-bad-bound bounds, none-large frame right)
 
-  -- ---- The word, and when it is answered
+  -- ---- One law for each case
 
-  pub searched-word : liveCount received limit ≤ budget → fewest received ≤ limit → sharing received ≤ 1
-      → searched frame limit budget ≡ Repaired.Word (nearestOf frame limit)
-  unfolding searched nearestWithin
-  searched-word within near one = rw (le-ltb budget (liveCount received limit) within, le-ltb limit (fewest received) near, le-ltb 1 (sharing received) one)
+  module _ (within : live ≤ budget) where
+    module _ (near : fewest received ≤ limit) where
+      pub searched-word : sharing received ≤ 1 → searched frame limit budget ≡ Repaired.Word (nearestOf frame limit)
+      unfolding searched nearestWithin
+      searched-word one = rw (le-ltb budget live within, le-ltb limit (fewest received) near, le-ltb 1 (sharing received) one)
 
-  word-searched : (n : Nearest) → searched frame limit budget ≡ Repaired.Word n
-      → (liveCount received limit ≤ budget) × ((fewest received ≤ limit) × ((sharing received ≤ 1) × (nearestOf frame limit ≡ n)))
-  unfolding searched nearestWithin
-  word-searched n e =
-      let budgeted = cond-passed (ltb budget (liveCount received limit)) e (refused-not-word _ n) in
-      let near = cond-passed (ltb limit (fewest received)) (budgeted .1) (refused-not-word _ n) in
-      let one = cond-passed (ltb 1 (sharing received)) (near .1) (refused-not-word _ n) in
-      (ltb-false _ _ (budgeted .0), (ltb-false _ _ (near .0), (ltb-false _ _ (one .0), word-same _ n (one .1))))
+      pub searched-shared : 1 < sharing received → searched frame limit budget ≡ Repaired.Refused (refusal sharedFewest 0)
+      unfolding searched nearestWithin
+      searched-shared two = rw (le-ltb budget live within, le-ltb limit (fewest received) near, lt-ltb 1 (sharing received) two)
+
+    pub searched-none : limit < fewest received → searched frame limit budget ≡ Repaired.Refused (refusal noneWithinLimit 0)
+    unfolding searched nearestWithin
+    searched-none far = rw (le-ltb budget live within, lt-ltb limit (fewest received) far)
+
+  pub searched-over : budget < live → searched frame limit budget ≡ Repaired.Refused (refusal overBudget 0)
+  unfolding searched
+  searched-over over = rw (lt-ltb budget live over)
+
+  -- ---- Back from the answer to its case
+
+  -- What holds of the answer in each case holds of it.
+  by-case : (P : Repaired → Type 0)
+      → (budget < live → P (Repaired.Refused (refusal overBudget 0)))
+      → (live ≤ budget → limit < fewest received → P (Repaired.Refused (refusal noneWithinLimit 0)))
+      → (live ≤ budget → fewest received ≤ limit → 1 < sharing received → P (Repaired.Refused (refusal sharedFewest 0)))
+      → (live ≤ budget → fewest received ≤ limit → sharing received ≤ 1 → P (Repaired.Word (nearestOf frame limit)))
+      → P (searched frame limit budget)
+  by-case P over none shared word =
+      below-or-not budget live
+      (λ h. rw (searched-over h) (over h))
+      (λ within.
+      below-or-not limit (fewest received)
+      (λ far. rw (searched-none within far) (none within far))
+      (λ near.
+      below-or-not 1 (sharing received)
+      (λ two. rw (searched-shared within near two) (shared within near two))
+      (λ one. rw (searched-word within near one) (word within near one))))
 
   -- ---- Out of budget
 
-  pub searched-over : budget < liveCount received limit → searched frame limit budget ≡ Repaired.Refused (refusal overBudget 0)
-  unfolding searched
-  searched-over over = rw (lt-ltb budget (liveCount received limit) over)
+  over-of : repairNumbers (searched frame limit budget) .number ≡ overBudget → budget < live
+  unfolding repairNumbers
+  over-of =
+      by-case (λ a. repairNumbers a .number ≡ overBudget → budget < live)
+      (λ over e. over)
+      (λ within far e. absurd (omega arith))
+      (λ within near two e. absurd (omega arith))
+      (λ within near one e. absurd (omega arith))
 
-  not-over : repairNumbers (nearestWithin frame limit) .number ≡ overBudget → ⊥
-  unfolding nearestWithin repairNumbers
-  not-over =
-      cond-both (λ a. repairNumbers a .number ≡ overBudget → ⊥) (ltb limit (fewest received)) (λ e. omega arith)
-      (cond-both (λ a. repairNumbers a .number ≡ overBudget → ⊥) (ltb 1 (sharing received)) (λ e. omega arith) (λ e. omega arith))
+  -- ---- The nearest word
 
-  over-searched : searched frame limit budget ≡ Repaired.Refused (refusal overBudget 0) → budget < liveCount received limit
-  unfolding searched repairNumbers
-  over-searched e =
-      ltb-true _ _
-      (cond-held (ltb budget (liveCount received limit)) e (λ same. not-over (ap (λ (a : Repaired). repairNumbers a .number) same)) .0)
+  nearestOf-is : fewest received ≤ limit → sharing received ≤ 1 → IsNearest frame limit (nearestOf frame limit)
+  unfolding nearestOf
+  nearestOf-is near one =
+      let only = only-nearest received one in
+      record {
+        only-nearest = only;
+        its-disagreements = fewest-only received (nearest received) only;
+        within-limit = near;
+        live-count = refl;
+        wrong-sync = refl;
+      }
+
+  is-nearestOf : (n : Nearest) → IsNearest frame limit n → nearestOf frame limit ≡ n
+  unfolding nearestOf
+  is-nearestOf n is =
+      let only = is .only-nearest in
+      let few = fewest-only received (n .word) only in
+      rw (nearest-only received (n .word) only, few, ← is .its-disagreements, ← is .live-count, ← is .wrong-sync)
+
+  word-of : (n : Nearest) → searched frame limit budget ≡ Repaired.Word n → (live ≤ budget) × IsNearest frame limit n
+  word-of n =
+      by-case (λ a. a ≡ Repaired.Word n → (live ≤ budget) × IsNearest frame limit n)
+      (λ over e. absurd (refused-not-word _ n e))
+      (λ within far e. absurd (refused-not-word _ n e))
+      (λ within near two e. absurd (refused-not-word _ n e))
+      (λ within near one e. (within, rw (word-same _ n e) at (nearestOf-is near one)))
+
+  of-word : (n : Nearest) → (live ≤ budget) × IsNearest frame limit n → searched frame limit budget ≡ Repaired.Word n
+  of-word n given =
+      let is = given .1 in
+      let few = fewest-only received (n .word) (is .only-nearest) in
+      let near : fewest received ≤ limit = omega (arith, is .its-disagreements, is .within-limit) in
+      let one : sharing received ≤ 1 = omega (arith, sharing-only received (n .word) (is .only-nearest)) in
+      searched-word (given .0) near one ∙ ap Repaired.Word (is-nearestOf n is)
+
+  -- ---- No word within the limit
+
+  none-of : repairNumbers (searched frame limit budget) .number ≡ noneWithinLimit → (live ≤ budget) × NoneWithin received limit
+  unfolding repairNumbers
+  none-of =
+      by-case (λ a. repairNumbers a .number ≡ noneWithinLimit → (live ≤ budget) × NoneWithin received limit)
+      (λ over e. absurd (omega arith))
+      (λ within far e. (within, λ word h. omega (arith, fewest-below received word h)))
+      (λ within near two e. absurd (omega arith))
+      (λ within near one e. absurd (omega arith))
+
+  of-none : (live ≤ budget) × NoneWithin received limit → searched frame limit budget ≡ Repaired.Refused (refusal noneWithinLimit 0)
+  of-none given =
+      let found = fewest-reached received in
+      searched-none (given .0) (omega (arith, given .1 (found .0) (found .1 .0), found .1 .1))
+
+  -- ---- Words that share the fewest disagreements
+
+  shared-of : repairNumbers (searched frame limit budget) .number ≡ sharedFewest → (live ≤ budget) × Shared received limit
+  unfolding repairNumbers
+  shared-of =
+      by-case (λ a. repairNumbers a .number ≡ sharedFewest → (live ≤ budget) × Shared received limit)
+      (λ over e. absurd (omega arith))
+      (λ within far e. absurd (omega arith))
+      (λ within near two e. (within, sharing-words near two))
+      (λ within near one e. absurd (omega arith))
+    where
+      sharing-words : fewest received ≤ limit → 1 < sharing received → Shared received limit
+      sharing-words near two =
+          let words = two-sharing received two in
+          record {
+            one = words .0;
+            another = words .1 .0;
+            different = words .1 .1 .0;
+            one-fewest = words .1 .1 .1 .0;
+            another-fewest = words .1 .1 .1 .1;
+            within-limit = omega (arith, fewest-is received (words .0) (words .1 .1 .1 .0));
+          }
+
+  of-shared : (live ≤ budget) × Shared received limit → searched frame limit budget ≡ Repaired.Refused (refusal sharedFewest 0)
+  of-shared given =
+      let words = given .1 in
+      searched-shared (given .0) (omega (arith, fewest-is received (words .one) (words .one-fewest), words .within-limit))
+      (sharing-two received (words .one) (words .another) (words .different) (words .one-fewest) (words .another-fewest))
 
   -- ---- The demand
 
-  nearest-is : (n : Nearest) → fewest received ≤ limit → sharing received ≤ 1 → nearestOf frame limit ≡ n → IsNearest frame limit n
-  unfolding nearestOf
-  nearest-is n near one e =
-      let only = only-nearest received one in
-      let few = fewest-only received (nearest received) only in
-      rw (← e)
-      (record { only-nearest = only; its-disagreements = few; within-limit = near; live-count = refl; wrong-sync = refl })
-
-  is-nearest : (n : Nearest) → IsNearest frame limit n → (fewest received ≤ limit) × ((sharing received ≤ 1) × (nearestOf frame limit ≡ n))
-  unfolding nearestOf
-  is-nearest n is =
-      let only = is .only-nearest in
-      let few = fewest-only received (n .word) only in (
-        omega (arith, few, is .its-disagreements, is .within-limit),
-        (
-          omega (arith, sharing-only received (n .word) only),
-          rw (nearest-only received (n .word) only, few, ← is .its-disagreements, ← is .live-count, ← is .wrong-sync),
-        ),
-      )
-
-  pub demanded : Symbols frame → Bounds limit budget → Demanded frame limit budget (repaired frame limit budget)
-  demanded form bounds =
-      rw (repaired-searched form bounds)
+  pub demanded : AsDemanded frame limit budget (repaired frame limit budget)
+  unfolding repairNumbers
+  demanded right bounds =
+      rw (repaired-searched right bounds)
       (record {
-        out-of-budget = (over-searched, searched-over);
-        answered =
-            λ n. (
-              λ e. let found = word-searched n e in (found .0, nearest-is n (found .1 .0) (found .1 .1 .0) (found .1 .1 .1)),
-              λ given.
-                  let found = is-nearest n (given .1) in
-                  searched-word (given .0) (found .0) (found .1 .0) ∙ ap Repaired.Word (found .1 .1),
-            );
+        out-of-budget = (λ e. over-of (number-same _ _ e), searched-over);
+        answered = λ n. (word-of n, of-word n);
+        none-within = (λ e. none-of (number-same _ _ e), of-none);
+        shared = (λ e. shared-of (number-same _ _ e), of-shared);
       })

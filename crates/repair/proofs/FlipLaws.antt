@@ -1,4 +1,4 @@
--- Flipped data bits: counted in frame order they are the sent word's disagreements in S order; and two of them at most are healed.
+-- Flipped data bits: counted in frame order they are the sent word's disagreements in S order; and two of them at most are repaired.
 use mathlib.Core.Path.{_≡_, refl, sym, ap, ap₂, _∙_}
 use Prim.Native.Nat.{ℕ, _^_, _≤_, _<_}
 use native.Mathlib.Omega.{arith}
@@ -11,16 +11,16 @@ use Rattle.convolution.specs.Code.{codedBits}
 use Rattle.convolution.proofs.CodeLaws.{length-codedBits}
 use Rattle.interleaver.specs.Places.{placeOf, orderOf}
 use Rattle.interleaver.proofs.PlaceLaws.{placeOf-below, orderOf-below, orderOf-placeOf, placeOf-orderOf}
-use Rattle.frame.specs.Symbols.{frameOf, receivedBits}
+use Rattle.frame.specs.Symbols.{frameOf, RightSymbols, dataAt, receivedBits}
 use Rattle.frame.proofs.SymbolLaws.{length-receivedBits, getD-receivedBits, received-frameOf}
 use Rattle.distance.specs.Prefixes.{wordDisagreements, liveCount}
 use Rattle.distance.specs.Nearest.{OnlyNearest}
 use Rattle.distance.proofs.Bits.{differences-sym, differences-counted}
 use Rattle.distance.proofs.PrefixLaws.{word-disagreements}
 use Rattle.distance.proofs.ZeroWord.{flipped-most, others-further}
-use Rattle.repair.specs.Answer.{unsyncedIn, repaired}
-use Rattle.repair.specs.Demand.{Symbols, Bounds, dataAt, flips, sentWord, TwoFlipsHealed}
-use Rattle.repair.specs.declared.Nearest.{Nearest}
+use Rattle.repair.specs.Answer.{repaired}
+use Rattle.repair.specs.Demand.{Bounds, IsNearest, flips, givenBack, TwoFlipsRepaired}
+use Rattle.repair.specs.declared.Repaired.{Repaired}
 use Rattle.repair.proofs.AnswerLaws.{demanded}
 
 module _ (word : ℕ) (frame : List ℕ) where
@@ -29,11 +29,9 @@ module _ (word : ℕ) (frame : List ℕ) where
 
   -- At the place of a coded bit stand the received one and the sent one.
   received-there : (index : ℕ) → index < 162 → getD received index 0 ≡ dataAt frame (placeOf index)
-  unfolding dataAt
   received-there index h = getD-receivedBits frame index h
 
   sent-there : (index : ℕ) → index < 162 → getD (codedBits word) index 0 ≡ dataAt (frameOf word) (placeOf index)
-  unfolding dataAt
   sent-there index h = ap (λ (bits : List ℕ). getD bits index 0) (sym (received-frameOf word)) ∙ getD-receivedBits (frameOf word) index h
 
   pub flips-disagreements : flips word frame ≡ wordDisagreements received word
@@ -60,16 +58,18 @@ module _ (word : ℕ) (frame : List ℕ) where
     others-more : OnlyNearest received word
     others-more = (h, λ other k different. omega (arith, others-further received other word (length-receivedBits frame) k h different, flips-disagreements))
 
-    -- A budget from 569 on is enough.
-    pub healed : (budget : ℕ) → 569 ≤ budget → budget ≤ 65_536 → Symbols frame → repaired frame 2 budget ≡ sentWord word frame 2
-    unfolding sentWord
-    healed budget enough most form =
-        let bounds : Bounds 2 budget = record { limit-to-12 = omega arith; budget-from-1 = omega arith; budget-to-65536 = most } in
-        let sent : Nearest = record { word = word; disagreements = flips word frame; live = liveCount received 2; unsynced = unsyncedIn frame } in
-        demanded frame 2 budget form bounds .answered sent .1 (
-          omega (arith, live-most),
-          record { only-nearest = others-more; its-disagreements = flips-disagreements; within-limit = few; live-count = refl; wrong-sync = refl },
-        )
+    given-back-is : IsNearest frame 2 (givenBack word frame 2)
+    unfolding givenBack
+    given-back-is =
+        record { only-nearest = others-more; its-disagreements = flips-disagreements; within-limit = few; live-count = refl; wrong-sync = refl }
 
-pub two-flips-healed : TwoFlipsHealed
-two-flips-healed word frame h form few = healed word frame h few 16_000 (omega arith) (omega arith) form
+    -- A budget from 569 on is enough.
+    pub sent-repaired : (budget : ℕ) → 569 ≤ budget → budget ≤ 65_536 → RightSymbols frame
+        → repaired frame 2 budget ≡ Repaired.Word (givenBack word frame 2)
+    sent-repaired budget enough most right =
+        let bounds : Bounds 2 budget = record { limit-to-12 = omega arith; budget-from-1 = omega arith; budget-to-65536 = most } in
+        demanded frame 2 budget right bounds .answered (givenBack word frame 2) .1 (omega (arith, live-most), given-back-is)
+
+pub two-flips-repaired : (frame : List ℕ) (limit budget : ℕ) → TwoFlipsRepaired frame limit budget (repaired frame limit budget)
+two-flips-repaired frame limit budget two enough right word h few =
+    rw (two, enough) (sent-repaired word frame h few 16_000 (omega arith) (omega arith) right)

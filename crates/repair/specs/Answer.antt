@@ -1,4 +1,4 @@
--- What repair answers (01, 'Repair'), for any received symbols, limit and budget.
+-- What repair (nearest-codeword decoding) answers for any received symbols, limit and budget (01, 'Repair').
 use Prim.Native.Nat.{ℕ}
 use mathlib.Core.Bool.{cond, not}
 use mathlib.Core.List.{List, [], _∷_}
@@ -19,11 +19,12 @@ use Rattle.repair.specs.declared.Repaired.{Repaired}
 unfoldable pub firstBadBound : ℕ → ℕ → ℕ
 firstBadBound limit budget = firstFalse 0 (leb limit 12 ∷ between 1 65_536 budget ∷ [])
 
--- "the number of the 162 symbols whose sync bit (symbol modulo 2) is wrong"
-unfoldable pub unsyncedIn : List ℕ → ℕ
-unsyncedIn frame = countBelow 162 (λ place. not (synced place (getD frame place 0)))
+-- How many of the 162 symbols have a wrong sync bit.
+unfoldable pub wrongSyncIn : List ℕ → ℕ
+wrongSyncIn frame = countBelow 162 (λ place. not (synced place (getD frame place 0)))
 
--- "The answer holds the word, its disagreements, the live count, and the number of .. wrong" sync bits.
+-- "The answer holds the word, its disagreements, the live count, and the number of the 162 symbols whose sync bit (symbol modulo 2) is
+-- wrong."
 unfoldable pub nearestOf : List ℕ → ℕ → Nearest
 nearestOf frame limit =
     let received = receivedBits frame in
@@ -31,7 +32,7 @@ nearestOf frame limit =
       word = nearest received;
       disagreements = fewest received;
       live = liveCount received limit;
-      unsynced = unsyncedIn frame;
+      «sync_wrong» = wrongSyncIn frame;
     }
 
 -- The one word with the fewest disagreements where these are at most the limit, or why there is none. If the fewest lie above the limit,
@@ -66,7 +67,7 @@ pub record RepairNumbers : Type 0 where
   pub nearest : Nearest
 
 unfoldable pub noNearest : Nearest
-noNearest = record { word = 0; disagreements = 0; live = 0; unsynced = 0 }
+noNearest = record { word = 0; disagreements = 0; live = 0; «sync_wrong» = 0 }
 
 unfoldable pub repairNumbers : Repaired → RepairNumbers
 repairNumbers (Repaired.Word n) = record { number = 0; place = 0; nearest = n }

@@ -1,26 +1,18 @@
--- Demand 3 of an answer: when it is "out of budget", when it is a word and which, and that two flipped data bits at most are healed.
+-- Demand 3 of an answer: when it is "out of budget", when it is a word and which, and that two flipped data bits at most are repaired.
 use mathlib.Core.Path.{_≡_}
 use mathlib.Core.Logic.{_↔_}
-use Prim.Native.Nat.{ℕ, _/_, _^_, _≤_, _<_}
+use Prim.Native.Nat.{ℕ, _^_, _≤_, _<_}
 use mathlib.Core.Bool.{not}
 use mathlib.Core.List.{List}
 use lib.Dec.{eqb}
-use lib.ListN.{length, getD}
 use Rattle.basics.specs.Below.{countBelow}
-use Rattle.refusal.specs.Refusals.{refusal, overBudget}
-use Rattle.frame.specs.Symbols.{frameOf, receivedBits}
+use Rattle.refusal.specs.Refusals.{refusal, overBudget, noneWithinLimit, sharedFewest}
+use Rattle.frame.specs.Symbols.{frameOf, RightSymbols, dataAt, receivedBits}
 use Rattle.distance.specs.Prefixes.{wordDisagreements, liveCount}
-use Rattle.distance.specs.Nearest.{OnlyNearest}
-use Rattle.repair.specs.Answer.{unsyncedIn, repaired}
+use Rattle.distance.specs.Nearest.{AtMostAll, OnlyNearest}
+use Rattle.repair.specs.Answer.{wrongSyncIn}
 use Rattle.repair.specs.declared.Nearest.{Nearest}
 use Rattle.repair.specs.declared.Repaired.{Repaired}
-
--- ---- What is given
-
--- "any 162 symbols of 0 to 3"
-pub record Symbols (frame : List ℕ) : Type 0 where
-  pub right-length : length frame ≡ 162
-  pub symbols-to-3 : (place : ℕ) → place < 162 → getD frame place 0 ≤ 3
 
 -- "a limit of 0 to 12 wrong data bits and a budget of 1 to 65,536"
 pub record Bounds (limit budget : ℕ) : Type 0 where
@@ -36,39 +28,57 @@ pub record IsNearest (frame : List ℕ) (limit : ℕ) (answer : Nearest) : Type 
   pub its-disagreements : answer .disagreements ≡ wordDisagreements (receivedBits frame) (answer .word)
   pub within-limit : answer .disagreements ≤ limit
   pub live-count : answer .live ≡ liveCount (receivedBits frame) limit
-  pub wrong-sync : answer .unsynced ≡ unsyncedIn frame
+  pub wrong-sync : answer .«sync_wrong» ≡ wrongSyncIn frame
+
+-- "no word within the limit"
+abbrev pub NoneWithin : List ℕ → ℕ → Type 0
+NoneWithin received limit = (word : ℕ) → word < 2 ^ 50 → limit < wordDisagreements received word
+
+-- "two or more words share the fewest disagreements", which are at most the limit.
+pub record Shared (received : List ℕ) (limit : ℕ) : Type 0 where
+  pub one : ℕ
+  pub another : ℕ
+  pub different : one ≡ another → ⊥
+  pub one-fewest : AtMostAll received one
+  pub another-fewest : AtMostAll received another
+  pub within-limit : wordDisagreements received one ≤ limit
 
 pub record Demanded (frame : List ℕ) (limit budget : ℕ) (answer : Repaired) : Type 0 where
   -- "it says "out of budget" exactly when the live count .. is above the budget"
   pub out-of-budget : (answer ≡ Repaired.Refused (refusal overBudget 0)) ↔ (budget < liveCount (receivedBits frame) limit)
   -- "Otherwise it answers exactly when one single 50-bit word has the fewest disagreements with those symbols, and these are at most the
   -- limit."
-  pub answered : (nearest : Nearest) → (answer ≡ Repaired.Word nearest) ↔ ((liveCount (receivedBits frame) limit ≤ budget) × IsNearest frame limit nearest)
+  pub answered : (nearest : Nearest)
+      → (answer ≡ Repaired.Word nearest) ↔ ((liveCount (receivedBits frame) limit ≤ budget) × IsNearest frame limit nearest)
+  -- Where there is no such word, 01's table says why.
+  pub none-within : (answer ≡ Repaired.Refused (refusal noneWithinLimit 0))
+      ↔ ((liveCount (receivedBits frame) limit ≤ budget) × NoneWithin (receivedBits frame) limit)
+  pub shared : (answer ≡ Repaired.Refused (refusal sharedFewest 0))
+      ↔ ((liveCount (receivedBits frame) limit ≤ budget) × Shared (receivedBits frame) limit)
+
+-- "Repair takes any 162 symbols of 0 to 3, a limit .. and a budget .. Whichever these are, ..": what is demanded of its answer.
+abbrev pub AsDemanded : List ℕ → ℕ → ℕ → Repaired → Type 0
+AsDemanded frame limit budget answer = RightSymbols frame → Bounds limit budget → Demanded frame limit budget answer
 
 -- ---- Flipped data bits
-
--- The data bit at a place of a frame: "symbol divided by 2, rounded down".
-unfoldable pub dataAt : List ℕ → ℕ → ℕ
-dataAt frame place = getD frame place 0 / 2
 
 -- "A data bit is flipped where the received one differs from that of the sent word's frame." How many are.
 unfoldable pub flips : ℕ → List ℕ → ℕ
 flips word frame = countBelow 162 (λ place. not (eqb (dataAt frame place) (dataAt (frameOf word) place)))
 
--- The answer of the sent word and its flips.
-unfoldable pub sentWord : ℕ → List ℕ → ℕ → Repaired
-sentWord word frame limit =
-    Repaired.Word
-    (record {
+-- The sent word, "with the number of flipped bits as its disagreements", and what else the answer holds.
+unfoldable pub givenBack : ℕ → List ℕ → ℕ → Nearest
+givenBack word frame limit =
+    record {
       word = word;
       disagreements = flips word frame;
       live = liveCount (receivedBits frame) limit;
-      unsynced = unsyncedIn frame;
-    })
+      «sync_wrong» = wrongSyncIn frame;
+    }
 
 -- "Whichever 50-bit word was sent, whichever of its frame's 162 data bits were flipped, two at most, and whatever became of the sync
 -- bits, limit 2 with a budget of 16,000 gives that word back, with the number of flipped bits as its disagreements."
-abbrev pub TwoFlipsHealed : Type 0
-TwoFlipsHealed =
-    (word : ℕ) (frame : List ℕ) → word < 2 ^ 50 → Symbols frame → flips word frame ≤ 2
-    → repaired frame 2 16_000 ≡ sentWord word frame 2
+abbrev pub TwoFlipsRepaired : List ℕ → ℕ → ℕ → Repaired → Type 0
+TwoFlipsRepaired frame limit budget answer =
+    limit ≡ 2 → budget ≡ 16_000 → RightSymbols frame → (word : ℕ) → word < 2 ^ 50 → flips word frame ≤ 2
+    → answer ≡ Repaired.Word (givenBack word frame 2)

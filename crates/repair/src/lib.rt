@@ -7,7 +7,7 @@ pub struct Nearest {
     pub word: u64,
     pub disagreements: u32,
     pub live: u32,
-    pub unsynced: u32,
+    pub sync_wrong: u32,
 }
 
 // The answer of a repair.
