@@ -5,7 +5,7 @@ use wsprcard_tests::counts::Counts;
 use wsprcard_tests::inputs::{
     bad_symbol, edge_words, random_frame, random_places, random_word, resized, wrong_lengths,
 };
-use wsprcard_tests::reference::frame::{frame_of, sync, CLOCKED, FRAME_LEN};
+use wsprcard_tests::reference::frame::{frame_of, frame_of_clocked, sync, CLOCKED, FRAME_LEN};
 use wsprcard_tests::reference::message::WORDS;
 use wsprcard_tests::reference::repair::{data_bits, repair, Code, Nearest, Prefix, Repaired, WSPR};
 use wsprcard_tests::reference::Refusal;
@@ -162,24 +162,23 @@ fn registers_code_words_as_frames_hold_them() {
     }
 }
 
-/// What allows the search to leave out all that follows a prefix which isn't live. Each length
-/// is coded anew.
+/// What allows the search to leave out all that follows a prefix which isn't live. Here each
+/// length is coded as a frame of its own, by sums of shifted copies, with zeros after it; the
+/// registers must agree with that at every length.
 #[test]
 fn disagreements_never_fall_along_a_prefix() {
     let mut rng = Rng::new(2);
-    for turn in 0..2_000 {
-        let code = match turn % 4 {
-            0 => random_code(&mut rng),
-            1 => SMALL[turn / 4 % 4],
-            _ => WSPR,
-        };
-        let clocked = code.clocked(rng.below(1 << code.word_bits));
-        let received = random_bits(&mut rng, 2 * clocked.len());
-        let along: Vec<u32> =
-            (0..=clocked.len()).map(|len| code.disagreements(&clocked[..len], &received)).collect();
-        assert_eq!(along[0], 0);
-        for pair in along.windows(2) {
-            assert!(pair[0] <= pair[1] && pair[1] <= pair[0] + 2, "{code:?}: {along:?}");
+    for _ in 0..500 {
+        let clocked = WSPR.clocked(random_word(&mut rng));
+        let received = random_bits(&mut rng, FRAME_LEN);
+        let mut before = 0;
+        for len in 1..=CLOCKED {
+            let bits = clocked[..len].iter().fold(0, |bits, &bit| bits << 1 | u128::from(bit));
+            let coded = data_bits(&frame_of_clocked(bits << (CLOCKED - len)));
+            let differing = (0..2 * len).filter(|&i| coded[i] != received[i]).count() as u32;
+            assert_eq!(WSPR.disagreements(&clocked[..len], &received), differing, "{clocked:?}");
+            assert!(before <= differing && differing <= before + 2, "{clocked:?}, length {len}");
+            before = differing;
         }
     }
 }
@@ -360,7 +359,8 @@ fn one_flip_leaves_at_most_135_live_prefixes_at_limit_2() {
             .collect();
         assert!(counts.iter().all(|&count| count <= 135), "{word:#x}: {counts:?}");
         // The first coded bit of the 49th clocked one comes after those of 48.
-        assert_eq!(counts.iter().position(|&count| count == 135), Some(2 * 48), "{word:#x}");
+        let reached: Vec<usize> = (0..FRAME_LEN).filter(|&index| counts[index] == 135).collect();
+        assert_eq!(reached, [2 * 48], "{word:#x}");
     }
 }
 

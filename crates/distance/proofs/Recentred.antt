@@ -1,13 +1,15 @@
 -- The live prefixes around a sent word depend on the flips alone: they are as many as those around the zero word with the same flips. And
 -- with d flips those within a limit are at most those of the unflipped frame within the limit plus d.
-use mathlib.Core.Path.{_≡_, sym, ap, _∙_}
+use mathlib.Core.Path.{_≡_, refl, sym, ap, _∙_}
 use Prim.Native.Nat.{ℕ, _+_, _-_, _/_, _^_, _≤_}
 use native.Mathlib.Omega.{arith}
 use mathlib.Core.Bool.{Bool, true}
 use mathlib.Core.List.{List, _++_}
+use lib.Count.{ones}
 use lib.ListN.{length, drop, replicate, length-append, take-append-drop}
 use Rattle.basics.proofs.BelowLaws.{sum-same, sum-le, count-le}
-use Rattle.convolution.specs.Code.{bitsOf, clockedBits, codedFrom, codedBits}
+use Rattle.radix.specs.Numeral.{count, digitsOf}
+use Rattle.convolution.specs.Code.{bitsOf, clockedBits, clocked, firstMask, secondMask, parity, codedFrom, codedBits}
 use Rattle.convolution.proofs.CodeLaws.{length-bitsOf, length-codedFrom, length-codedBits}
 use Rattle.distance.specs.Prefixes.{freeOf, prefixBits, prefixesOf, differences, disagreements, isLive, liveOf, liveCount}
 use Rattle.distance.proofs.Bits.{AllBits, bits-append, bits-zeros, bits-bitsOf, summed, summed-append, summed-zeros, summed-unchanged, summed-twice, bits-summed, triangle, differences-summed}
@@ -81,9 +83,15 @@ liveCount-around word limit received are-bits long =
 
 -- ---- No flips
 
--- A word's own coded bits count as those of the zero word do, which are zeros.
+-- The coded bits of the zero word.
 abbrev pub zeroBits : List ℕ
 zeroBits = replicate 162 0
+
+pub codedBits-zero : codedBits 0 ≡ zeroBits
+unfolding codedBits clockedBits bitsOf digitsOf count codedFrom clocked parity firstMask secondMask ones
+codedBits-zero = refl
+
+-- A word's own coded bits count as those of the zero word do.
 
 own-bits : (word : ℕ) → summed (codedBits word) zeroBits ≡ codedBits word
 own-bits word = summed-unchanged 162 (codedBits word) (bits-codedBits word) (omega (arith, length-codedBits word))

@@ -70,7 +70,7 @@ same-within-five v w h k near =
     count-only (2 ^ 50) (λ number. isLive (codedBits w) 5 (prefixBits 81 number)) (omega (arith, one-within-five w)) v w h k
     (live-word w v near) (live-word w w (omega (arith, differences-none (codedBits w))))
 
--- "two different words always differ in at least six data bits"
+-- The coded bits of two different words differ in at least six places.
 pub six-apart : (v w : ℕ) → v < 2 ^ 50 → w < 2 ^ 50 → (v ≡ w → ⊥) → 6 ≤ differences (codedBits v) (codedBits w)
 six-apart v w h k other =
     below-or-not (differences (codedBits v) (codedBits w)) 6
