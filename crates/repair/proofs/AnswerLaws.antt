@@ -47,10 +47,12 @@ module _ (frame : List ℕ) (limit budget : ℕ) where
 
   -- ---- Where the symbols, the limit and the budget are as they should be
 
-  no-bad-bound : Bounds limit budget → firstBadBound limit budget ≡ 2
+  pub no-bad-bound : Bounds limit budget → firstBadBound limit budget ≡ 2
   unfolding firstBadBound firstFailing
   no-bad-bound bounds =
-      rw (le-leb limit 12 (bounds .limit-to-12), between-true 1 65_536 budget (bounds .budget-from-1) (bounds .budget-to-65536))
+      let limit-right = le-leb limit 12 (omega (arith, bounds .limit-to-12)) in
+      let budget-right = between-true 1 65_536 budget (omega (arith, bounds .budget-from-1)) (omega (arith, bounds .budget-to-65536)) in
+      rw (limit-right, budget-right)
 
   -- Only where both are within their bounds is neither refused.
   pub bounds-of : firstBadBound limit budget ≡ 2 → Bounds limit budget
@@ -59,7 +61,7 @@ module _ (frame : List ℕ) (limit budget : ℕ) where
       let first = cond-held (leb limit 12) e (λ z. absurd (omega arith)) in
       let second = cond-held (between 1 65_536 budget) (first .1) (λ z. absurd (omega arith)) in
       let range = between-range 1 65_536 budget (second .0) in
-      record { limit-to-12 = leb-true limit 12 (first .0); budget-from-1 = range .0; budget-to-65536 = range .1 }
+      record { limit-to-12 = omega (arith, leb-true limit 12 (first .0)); budget-from-1 = omega (arith, range .0); budget-to-65536 = omega (arith, range .1) }
 
   pub repaired-searched : RightSymbols frame → Bounds limit budget → repaired frame limit budget ≡ searched frame limit budget
   unfolding repaired
