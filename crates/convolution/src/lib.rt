@@ -17,14 +17,14 @@ fn parity(mask: u32, register: u32) -> u8
 }
 
 // The first coded bit of a register.
-fn first_coded(register: u32) -> u8
+pub fn first_coded(register: u32) -> u8
     ensures { λ r. ⌜ r ≡ parity firstMask register ⌝ }
 {
     parity(FIRST_MASK, register)
 }
 
 // The second coded bit of a register.
-fn second_coded(register: u32) -> u8
+pub fn second_coded(register: u32) -> u8
     ensures { λ r. ⌜ r ≡ parity secondMask register ⌝ }
 {
     parity(SECOND_MASK, register)
@@ -32,7 +32,7 @@ fn second_coded(register: u32) -> u8
 
 // The register after a bit: shifted left, the new bit lowest. Both registers of the definition hold
 // the same bits, so that one serves for both.
-fn clock(register: u32, bit: u8) -> u32
+pub fn clock(register: u32, bit: u8) -> u32
     requires { ⌜ bit < 2 ⌝ }
     ensures { λ r. ⌜ r ≡ clocked register bit ⌝ }
 {

@@ -25,7 +25,7 @@ pub(crate) fn write_symbols(word: u64, frame: &mut [u8])
 }
 
 // The first place whose symbol is above 3; the length where there is none.
-pub(crate) fn first_large(frame: &[u8]) -> usize
+pub fn first_large(frame: &[u8]) -> usize
     ensures { λ r. ⌜ r ≡ firstLarge (now (frame .entry)) ⌝ }
 {
     let mut place = 0;
@@ -55,7 +55,7 @@ pub(crate) fn first_wrong_sync(frame: &[u8]) -> usize
 }
 
 // The data bits of a frame in coded order.
-fn received_bits(frame: &[u8]) -> [u8; 162]
+pub fn received_bits(frame: &[u8]) -> [u8; 162]
     requires { ⌜ length (now frame) ≡ 162 ⌝ }
     ensures { λ r. ⌜ r ≡ receivedBits (now (frame .entry)) ⌝ }
 {

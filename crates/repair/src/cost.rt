@@ -1,0 +1,39 @@
+// The disagreements that a step adds.
+ghost use mathlib.Core.Path.{_≡_};
+ghost use Prim.Native.Nat.{_+_, _*_, _≤_, _<_};
+ghost use lib.ListN.{drop};
+ghost use Rattle.distance.specs.Prefixes.{stepCost};
+ghost use Rattle.repair.specs.Search.{zeroCost, branchCost};
+use super::prefix;
+
+// 1 where two bits differ.
+fn unlike(x: u8, y: u8) -> u32
+    ensures { λ r. ⌜ r ≡ cond (eqb x y) 0 1 ⌝ }
+{
+    if x == y { 0 } else { 1 }
+}
+
+// The disagreements of the two coded bits that a register gives after `depth` bits and one more.
+fn step_cost(received: &[u8; 162], depth: usize, register: u32) -> u32
+    requires { ⌜ depth < 81 ⌝ }
+    ensures { λ r. ⌜ r ≡ stepCost (drop (2 * depth) (now (received .entry))) register ⌝ }
+{
+    unlike(convolution::first_coded(register), received[2 * depth])
+        + unlike(convolution::second_coded(register), received[2 * depth + 1])
+}
+
+// What a 0 after a prefix adds to its disagreements.
+pub(crate) fn zero_cost(received: &[u8; 162], depth: usize, number: u64) -> u32
+    requires { ⌜ depth < 81 ⌝ }
+    ensures { λ r. ⌜ r ≡ zeroCost (now (received .entry)) depth number ⌝ }
+{
+    step_cost(received, depth, convolution::clock(prefix::register(depth, number), 0))
+}
+
+// What a branch adds, given what a 0 does: the coded bits of a 1 are the others.
+pub(crate) fn branch_cost(zero: u32, branch: u64) -> u32
+    requires { ⌜ zero ≤ 2 ⌝ }
+    ensures { λ r. ⌜ r ≡ branchCost zero branch ⌝ }
+{
+    if branch == 0 { zero } else { 2 - zero }
+}
