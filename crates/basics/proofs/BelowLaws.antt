@@ -1,7 +1,8 @@
 -- Laws of sums, counts and least values over the numbers below n.
 use mathlib.Core.Path.{_≡_, refl, sym, ap, _∙_}
-use Prim.Native.Nat.{ℕ, zero, suc, _+_, _≤_, _<_}
+use Prim.Native.Nat.{ℕ, zero, suc, _+_, _-_, _≤_, _<_}
 use native.Mathlib.Nat.{add-suc, add-zero, zero-add}
+use native.Mathlib.Numerals.{add-one}
 use native.Mathlib.Omega.{arith}
 use mathlib.Core.Bool.{Bool, true, false, true≢false, cond}
 use lib.Dec.{eqb}
@@ -65,6 +66,21 @@ sum-single (suc n) f at h others =
     let rest : sumBelow n f ≡ f at = sum-single n f at (omega arith) (λ i k. others i (omega arith)) in
     omega arith)
 
+-- Where all are the same but one, which is more by one, the sum is too.
+pub sum-raised : (n : ℕ) (f g : ℕ → ℕ) (at : ℕ) → at < n → f at ≡ g at + 1 → ((i : ℕ) → i < n → (i ≡ at → ⊥) → f i ≡ g i)
+    → sumBelow n f ≡ sumBelow n g + 1
+unfolding sumBelow
+sum-raised zero f g at h e others = absurd (omega arith)
+sum-raised (suc n) f g at h e others =
+    equal-or-not at n
+    (λ last.
+    let rest = sum-same n f g (λ i k. others i (omega arith) (λ same. absurd (omega arith))) in
+    let more : f n ≡ g n + 1 = rw last at e in
+    omega arith)
+    (λ before.
+    let rest = sum-raised n f g at (omega arith) e (λ i k. others i (omega arith)) in
+    omega (arith, others n (omega arith) (λ same. before (sym same))))
+
 -- A sum in another order is the same: f takes the numbers below n to the numbers below n, and g takes each back.
 module _ (n : ℕ) (f g : ℕ → ℕ) (f-below : (i : ℕ) → i < n → f i < n) (g-f : (i : ℕ) → i < n → g (f i) ≡ i)
     (g-below : (j : ℕ) → j < n → g j < n) (f-g : (j : ℕ) → j < n → f (g j) ≡ j) (h : ℕ → ℕ) where
@@ -122,9 +138,18 @@ count-last : (n : ℕ) (t : ℕ → Bool) → t n ≡ true → countBelow (suc n
 unfolding countBelow sumBelow
 count-last n t e = rw e
 
+pub count-raised : (n : ℕ) (t : ℕ → Bool) → t n ≡ true → countBelow (n + 1) t ≡ countBelow n t + 1
+count-raised n t e = rw (add-one n) (count-last n t e)
+
 count-more : (n : ℕ) (t : ℕ → Bool) → countBelow n t ≤ countBelow (suc n) t
 unfolding countBelow sumBelow
 count-more n t = omega arith
+
+-- Below a higher bound no fewer pass.
+pub count-up-to : (m n : ℕ) (t : ℕ → Bool) → m ≤ n → countBelow m t ≤ countBelow n t
+count-up-to m n t h =
+    let all : m + (n - m) ≡ n = omega arith in
+    omega (arith, rw all at (count-append m (n - m) t))
 
 -- One that passes is counted, and so are two.
 pub count-one : (n : ℕ) (t : ℕ → Bool) (at : ℕ) → at < n → t at ≡ true → 1 ≤ countBelow n t

@@ -3,12 +3,12 @@ use mathlib.Core.Path.{_≡_, refl, sym, ap, _∙_}
 use Prim.Native.Nat.{ℕ, zero, suc, _+_, _-_, _*_, _/_, _^_, _≤_, _<_}
 use native.Mathlib.Nat.{add-comm, div-one}
 use native.Mathlib.Omega.{arith}
-use mathlib.Core.Bool.{true}
+use mathlib.Core.Bool.{true, false}
 use mathlib.Core.List.{List, [], _∷_, _++_, append-nil, append-assoc}
 use lib.ListN.{length, take, replicate, length-append, length-replicate, replicate-append-replicate}
 use lib.Pow.{shl-shr, shr-shr}
 use lib.Seq.{take-append-le, take-append-seam}
-use borrow.Author.Tests.{le-leb, leb-true}
+use borrow.Author.Tests.{le-leb, lt-leb, leb-true}
 use Rattle.basics.proofs.Choice.{below-or-not}
 use Rattle.radix.specs.Numeral.{numberOf, digitsOf}
 use Rattle.radix.proofs.Laws.{numberOf-digitsOf}
@@ -108,6 +108,10 @@ module _ (received : List ℕ) (limit : ℕ) (bits : List ℕ) where
   pub within-live : isLive received limit bits ≡ true → disagreements received bits ≤ limit
   unfolding isLive
   within-live e = leb-true (disagreements received bits) limit e
+
+  pub not-live : limit < disagreements received bits → isLive received limit bits ≡ false
+  unfolding isLive
+  not-live h = lt-leb (disagreements received bits) limit h
 
 -- It goes by the disagreements alone.
 pub live-same : (r s : List ℕ) (limit : ℕ) (bits others : List ℕ) → disagreements r bits ≡ disagreements s others

@@ -1,3 +1,6 @@
--- `AnswerLaws`: the answer is what demand 3 asks for. `FlipLaws`: flipped data bits, and that two at most are repaired.
+-- `AnswerLaws`: the answer is what demand 3 asks for. `FlipLaws`: flipped data bits, and that two at most are repaired. `BestLaws`: the
+-- nearest word so far. `Walk`: the moves of the search.
 pub mod AnswerLaws
 pub mod FlipLaws
+pub mod BestLaws
+pub mod Walk

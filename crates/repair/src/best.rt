@@ -1,7 +1,7 @@
 // The nearest word so far.
 ghost use mathlib.Core.Path.{_≡_};
-ghost use Prim.Native.Nat.{_+_};
-ghost use Rattle.repair.specs.Search.{noneFound, nearer};
+ghost use Prim.Native.Nat.{_≤_};
+ghost use Rattle.repair.specs.Search.{noneFound, nearerOf};
 
 // The nearest word so far, its disagreements, and the fewest of the others; one above the limit where there is none.
 pub(crate) struct Best {
@@ -24,7 +24,7 @@ pub(crate) fn none_found(limit: u32) -> Best
 
 // The record with one word more.
 pub(crate) fn nearer(best: Best, word: u64, disagreements: u32) -> Best
-    ensures { λ r. ⌜ r ≡ nearer best word disagreements ⌝ }
+    ensures { λ r. ⌜ r ≡ nearerOf best word disagreements ⌝ }
 {
     if disagreements < best.fewest {
         Best {

@@ -2,8 +2,9 @@
 ghost use mathlib.Core.Path.{_≡_};
 ghost use Prim.Native.Nat.{_+_, _*_, _≤_, _<_};
 ghost use lib.ListN.{drop};
-ghost use Rattle.distance.specs.Prefixes.{stepCost};
-ghost use Rattle.repair.specs.Search.{zeroCost, branchCost};
+ghost use lib.Dec.{eqb};
+ghost use mathlib.Core.Bool.{cond};
+ghost use Rattle.distance.specs.Steps.{stepCost, zeroCost, branchCost};
 use super::prefix;
 
 // 1 where two bits differ.

@@ -2,7 +2,7 @@
 // the bits of the word branch; the bits of the tail are zeros.
 ghost use mathlib.Core.Path.{_≡_};
 ghost use Prim.Native.Nat.{_*_, _^_, _≤_, _<_};
-ghost use Rattle.repair.specs.Search.{branchesOf, childOf, parentOf, lastBranch, registerOf};
+ghost use Rattle.distance.specs.Steps.{branchesOf, childOf, parentOf, lastBranch, registerOf};
 
 // How many prefixes are one bit longer.
 pub(crate) fn branches(depth: usize) -> u64

@@ -1,7 +1,6 @@
 // The search: every live prefix is visited once, depth first, and counted.
-ghost use mathlib.Core.Path.{_≡_};
 ghost use Prim.Native.Nat.{_≤_};
-ghost use Rattle.repair.specs.Search.{Searched};
+ghost use Rattle.repair.specs.Search.{OnlyBits, Searched};
 use super::best;
 use super::best::Best;
 use super::cost;
@@ -15,6 +14,7 @@ pub(crate) struct Found {
 
 // Visits each live prefix, those that are longer after it, and leaves where there are more than the budget.
 pub(crate) fn search(received: &[u8; 162], limit: u32, budget: u32) -> Found
+    requires { ⌜ OnlyBits (now received) ⌝ }
     requires { ⌜ limit ≤ 12 ⌝ }
     requires { ⌜ budget ≤ 65_536 ⌝ }
     ensures { λ r. ⌜ Searched (now (received .entry)) limit budget r ⌝ }
@@ -35,8 +35,8 @@ pub(crate) fn search(received: &[u8; 162], limit: u32, budget: u32) -> Found
                 if budget < live {
                     break 'depths;
                 }
-                number = prefix::child(depth, number, branch);
                 if depth < 80 {
+                    number = prefix::child(depth, number, branch);
                     distance = next;
                     branch = 0;
                     depth += 1;
