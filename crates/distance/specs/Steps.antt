@@ -42,4 +42,4 @@ zeroCost received k number = stepCost (drop (2 * k) received) (clocked (register
 
 -- What a branch adds, given what a 0 does: the coded bits of a 1 are the other ones, so the two costs are 2 together.
 unfoldable pub branchCost : ℕ → ℕ → ℕ
-branchCost zero branch = cond (eqb branch 0) zero (2 - zero)
+branchCost cost branch = cond (eqb branch 0) cost (2 - cost)
