@@ -127,6 +127,14 @@ pub codedBits-below : (word i : ℕ) → getD (codedBits word) i 0 < 2
 unfolding codedBits
 codedBits-below word i = coded-below 0 0 (clockedBits word) i
 
+pub first-odd : firstMask % 2 ≡ 1
+unfolding firstMask
+first-odd = refl
+
+pub second-odd : secondMask % 2 ≡ 1
+unfolding secondMask
+second-odd = refl
+
 -- Under a mask whose lowest bit is 1 the new bit counts: the older bits' parity, plus the new bit.
 parity-clocked : (mask register bit : ℕ) → mask % 2 ≡ 1 → bit < 2
     → parity mask (clocked register bit) ≡ (bit + ones (bitAnd (register % 2 ^ 31) (mask / 2))) % 2

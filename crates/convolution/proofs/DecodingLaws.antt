@@ -11,7 +11,7 @@ use Rattle.radix.specs.Numeral.{Digits, numberOf}
 use Rattle.radix.proofs.Laws.{number-below, numberOf-digitsOf}
 use Rattle.convolution.specs.Code.{bitsOf, clockedBits, clocked, firstMask, parity, codedFrom, codedBits}
 use Rattle.convolution.specs.Decoding.{nextBit, decodedFrom, decodedWord, OnlyWord}
-use Rattle.convolution.proofs.CodeLaws.{count-bits, positive-bits, bits-in-range, parity-other}
+use Rattle.convolution.proofs.CodeLaws.{count-bits, positive-bits, bits-in-range, first-odd, parity-other}
 
 -- ---- One bit
 
@@ -27,10 +27,6 @@ pub nextBit-below : (register coded : ℕ) → nextBit register coded < 2
 unfolding nextBit
 nextBit-below register coded =
     by-test (eqb (parity firstMask (clocked register 0)) coded) (λ e. rw e (omega arith)) (λ e. rw e (omega arith))
-
-first-odd : firstMask % 2 ≡ 1
-unfolding firstMask
-first-odd = refl
 
 -- The bit that was clocked is found.
 nextBit-clocked : (register bit : ℕ) → bit < 2 → nextBit register (parity firstMask (clocked register bit)) ≡ bit

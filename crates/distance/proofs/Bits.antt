@@ -6,7 +6,7 @@ use native.Mathlib.Omega.{arith}
 use mathlib.Core.Bool.{Bool, true, false, cond, not}
 use mathlib.Core.List.{List, [], _∷_, _++_}
 use lib.Dec.{eqb}
-use lib.ListN.{length, getD, replicate}
+use lib.ListN.{length, getD, drop, replicate}
 use borrow.Author.Tests.{eq-eqb, ne-eqb}
 use Rattle.basics.specs.Below.{countBelow}
 use Rattle.basics.proofs.BelowLaws.{count-first, count-none}
@@ -27,6 +27,12 @@ pub bits-append : (xs ys : List ℕ) → AllBits xs → AllBits ys → AllBits (
 unfolding AllBits
 bits-append [] ys h k = k
 bits-append (x ∷ xs) ys h k = (h .0, bits-append xs ys (h .1) k)
+
+pub bits-drop : (n : ℕ) (xs : List ℕ) → AllBits xs → AllBits (drop n xs)
+unfolding AllBits
+bits-drop zero xs h = h
+bits-drop (suc n) [] h = tt
+bits-drop (suc n) (x ∷ xs) h = bits-drop n xs (h .1)
 
 pub bits-zeros : (n : ℕ) → AllBits (replicate n 0)
 unfolding AllBits
@@ -90,7 +96,7 @@ summed-twice (x ∷ xs) (y ∷ ys) h k l =
 -- ---- Differences
 
 -- 1 where they differ.
-abbrev unlike : ℕ → ℕ → ℕ
+abbrev pub unlike : ℕ → ℕ → ℕ
 unlike x y = cond (eqb x y) 0 1
 
 alike : (x y : ℕ) → x ≡ y → unlike x y ≡ 0
@@ -99,8 +105,15 @@ alike x y e = rw (eq-eqb x y e)
 not-alike : (x y : ℕ) → (x ≡ y → ⊥) → unlike x y ≡ 1
 not-alike x y other = rw (ne-eqb x y other)
 
-unlike-most : (x y : ℕ) → unlike x y ≤ 1
+pub unlike-most : (x y : ℕ) → unlike x y ≤ 1
 unlike-most x y = equal-or-not x y (λ e. omega (arith, alike x y e)) (λ other. omega (arith, not-alike x y other))
+
+-- Of two different bits, any bit is unlike one.
+pub unlike-others : (x y z : ℕ) → x + y ≡ 1 → z < 2 → unlike x z + unlike y z ≡ 1
+unlike-others x y z e h =
+    equal-or-not x z
+    (λ same. omega (arith, alike x z same, not-alike y z (λ both. omega arith)))
+    (λ other. omega (arith, not-alike x z other, alike y z (omega arith)))
 
 unlike-triangle : (x y z : ℕ) → unlike x z ≤ unlike x y + unlike y z
 unlike-triangle x y z =
@@ -158,6 +171,13 @@ unfolding differences
 differences-grow [] more ys = omega arith
 differences-grow (x ∷ xs) more [] = omega arith
 differences-grow (x ∷ xs) more (y ∷ ys) = omega (arith, differences-grow xs more ys)
+
+-- Of two lists one after the other, the second meets what the first leaves.
+pub differences-append : (xs more ys : List ℕ) → differences (xs ++ more) ys ≡ differences xs ys + differences more (drop (length xs) ys)
+unfolding differences
+differences-append [] more ys = omega arith
+differences-append (x ∷ xs) more [] = omega (arith, differences-sym more [])
+differences-append (x ∷ xs) more (y ∷ ys) = omega (arith, differences-append xs more ys)
 
 -- They are counted by places.
 pub differences-counted : (n : ℕ) (xs ys : List ℕ) → length xs ≡ n → length ys ≡ n

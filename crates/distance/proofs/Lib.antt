@@ -1,7 +1,8 @@
 -- `Bits`: lists of bits, their sums and differences. `Linear`: the code is linear. `BitCounts`: counts over lists of bits. `PrefixLaws`:
 -- the prefixes of a word, and longer ones. `Recentred`: the live prefixes around a sent word. `Tree`: the live count as a tree with
--- pruning. `ZeroWord`: the zero word's tree computed, and what follows for every word. `NearestLaws`: the nearest word. `Spans`:
--- the words with a prefix. `Passed`: the live prefixes that a search has passed.
+-- pruning. `ZeroWord`: the zero word's tree computed, and what follows for every word. `NearestLaws`: the nearest word. `StepLaws`: a
+-- prefix that is one bit longer, and what the bit adds. `Spans`: the words with a prefix. `Passed`: the live prefixes that a search has
+-- passed.
 pub mod Bits
 pub mod Linear
 pub mod BitCounts
@@ -10,6 +11,6 @@ pub mod Recentred
 pub mod Tree
 pub mod ZeroWord
 pub mod NearestLaws
-pub mod Spans
 pub mod StepLaws
+pub mod Spans
 pub mod Passed

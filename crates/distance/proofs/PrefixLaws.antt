@@ -1,7 +1,7 @@
 -- Laws of prefixes: the prefixes of a word, and what a longer prefix adds.
 use mathlib.Core.Path.{_≡_, refl, sym, ap, _∙_}
 use Prim.Native.Nat.{ℕ, zero, suc, _+_, _-_, _*_, _/_, _^_, _≤_, _<_}
-use native.Mathlib.Nat.{add-comm, div-one}
+use native.Mathlib.Nat.{add-comm, div-one, sub-self}
 use native.Mathlib.Omega.{arith}
 use mathlib.Core.Bool.{true, false}
 use mathlib.Core.List.{List, [], _∷_, _++_, append-nil, append-assoc}
@@ -19,17 +19,22 @@ use Rattle.distance.proofs.Bits.{AllBits, differences-grow}
 
 -- ---- The prefixes of a word
 
-free-first : (k : ℕ) → k ≤ 50 → freeOf k ≡ k
+pub free-first : (k : ℕ) → k ≤ 50 → freeOf k ≡ k
 unfolding freeOf
 free-first k h = omega arith
 
-free-later : (k : ℕ) → 50 ≤ k → freeOf k ≡ 50
+pub free-later : (k : ℕ) → 50 ≤ k → freeOf k ≡ 50
 unfolding freeOf
 free-later k h = omega arith
 
 free-most : (k : ℕ) → freeOf k ≤ k
 unfolding freeOf
 free-most k = omega arith
+
+-- Up to the fiftieth bit all are free.
+pub all-free : (k number : ℕ) → k ≤ 50 → prefixBits k number ≡ bitsOf k number
+unfolding prefixBits
+all-free k number h = rw (free-first k h, sub-self k, append-nil (bitsOf k number))
 
 -- The first k bits of k + j are those of the number without its j lowest.
 first-bits : (k j number : ℕ) → take k (bitsOf (k + j) number) ≡ bitsOf k (number / 2 ^ j)
@@ -42,11 +47,10 @@ first-bits (suc k) j number =
 -- Up to the fiftieth bit, and after it.
 module _ (k word : ℕ) where
   prefix-first : k ≤ 50 → take k (clockedBits word) ≡ prefixBits k (word / 2 ^ (50 - k))
-  unfolding clockedBits prefixBits
+  unfolding clockedBits
   prefix-first h =
-      let none : k - k ≡ 0 = omega arith in
       let all : k + (50 - k) ≡ 50 = omega arith in
-      rw (free-first k h, none, append-nil (bitsOf k (word / 2 ^ (50 - k))))
+      rw (all-free k (word / 2 ^ (50 - k)) h)
       (take-append-le k (bitsOf 50 word) (replicate 31 0) (rw (length-bitsOf 50 word) h) ∙ rw all at (first-bits k (50 - k) word))
 
   prefix-later : 50 < k → k ≤ 81 → take k (clockedBits word) ≡ prefixBits k (word / 2 ^ (50 - k))

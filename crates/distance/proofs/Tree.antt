@@ -17,6 +17,8 @@ use Rattle.basics.proofs.BelowLaws.{sum-same, sum-zero, sum-plus, sum-first}
 use Rattle.basics.proofs.Choice.{by-test, below-or-not}
 use Rattle.convolution.specs.Code.{clocked, firstMask, secondMask, parity, codedFrom}
 use Rattle.distance.specs.Prefixes.{freeOf, prefixBits, prefixesOf, differences, disagreements, isLive, liveOf, liveCount}
+use Rattle.distance.specs.Steps.{stepCost}
+use Rattle.distance.proofs.Bits.{differences-append}
 use Rattle.distance.proofs.BitCounts.{countBits, countBits-same, count-by-bits}
 
 -- ---- A parity that is computed
@@ -49,15 +51,19 @@ second-small = omega arith
 
 -- ---- One step
 
--- The disagreements that a step adds: of the two coded bits that its register gives with the next two received.
-unfoldable pub stepCost : ℕ → List ℕ → ℕ
-stepCost register received = differences (parity32 firstMask register ∷ parity32 secondMask register ∷ []) received
+-- The disagreements that a step adds, computed.
+unfoldable pub stepCost32 : List ℕ → ℕ → ℕ
+stepCost32 received register = differences (parity32 firstMask register ∷ parity32 secondMask register ∷ []) received
+
+stepCost-computed : (received : List ℕ) (register : ℕ) → stepCost received register ≡ stepCost32 received register
+unfolding stepCost stepCost32
+stepCost-computed received register = rw (parity-computed firstMask register first-small, parity-computed secondMask register second-small)
 
 -- What is counted from a bit on, given what is counted after it: nothing where its prefix isn't live.
 unfoldable pub step : (ℕ → List ℕ → ℕ → ℕ) → ℕ → List ℕ → ℕ → ℕ → ℕ
 step after register received limit bit =
     let next = clocked register bit in
-    let cost = stepCost next received in
+    let cost = stepCost32 received next in
     elim (leb cost limit) [ true ↦ after next (drop 2 received) (limit - cost) | false ↦ 0 ]
 
 -- ---- The tree
@@ -83,7 +89,7 @@ module _ (register : ℕ) (received : List ℕ) (limit bit : ℕ) where
   next = clocked register bit
 
   abbrev cost : ℕ
-  cost = stepCost next received
+  cost = stepCost32 received next
 
   abbrev taken : (ℕ → List ℕ → ℕ → ℕ) → Bool → ℕ
   taken after live = elim live [ true ↦ after next (drop 2 received) (limit - cost) | false ↦ 0 ]
@@ -142,17 +148,6 @@ sum-levels (suc n) (suc free) register received limit =
 
 -- ---- The live prefixes of one length
 
-no-differences : (xs : List ℕ) → differences xs [] ≡ 0
-unfolding differences
-no-differences [] = refl
-no-differences (x ∷ xs) = refl
-
-differences-two : (x y : ℕ) (xs ys : List ℕ) → differences (x ∷ y ∷ xs) ys ≡ differences (x ∷ y ∷ []) ys + differences xs (drop 2 ys)
-unfolding differences
-differences-two x y xs [] = rw (no-differences xs)
-differences-two x y xs (u ∷ []) = omega (arith, no-differences xs)
-differences-two x y xs (u ∷ v ∷ ys) = omega arith
-
 leb-rest : (c d limit : ℕ) → c ≤ limit → leb (c + d) limit ≡ leb d (limit - c)
 leb-rest c d limit h =
     below-or-not (limit - c) d
@@ -169,12 +164,12 @@ further : ℕ → List ℕ → List ℕ → ℕ
 further register received bits = differences (codedFrom register register bits) received
 
 further-first : (register : ℕ) (received : List ℕ) (bit : ℕ) (bits : List ℕ)
-    → further register received (bit ∷ bits) ≡ stepCost (clocked register bit) received + further (clocked register bit) (drop 2 received) bits
+    → further register received (bit ∷ bits) ≡ stepCost32 received (clocked register bit) + further (clocked register bit) (drop 2 received) bits
 unfolding further stepCost codedFrom
 further-first register received bit bits =
     let next = clocked register bit in
-    rw (← parity-computed firstMask next first-small, ← parity-computed secondMask next second-small)
-    (differences-two (parity firstMask next) (parity secondMask next) (codedFrom next next bits) received)
+    rw (← stepCost-computed received next)
+    (differences-append (parity firstMask next ∷ parity secondMask next ∷ []) (codedFrom next next bits) received)
 
 -- Those that begin with a bit are those from the step on.
 begin-counted : (m register : ℕ) (received : List ℕ) (limit bit : ℕ) (rest : List ℕ → List ℕ)
@@ -182,7 +177,7 @@ begin-counted : (m register : ℕ) (received : List ℕ) (limit bit : ℕ) (rest
     ≡ step (λ r e l. countBits m (λ bits. leb (further r e (rest bits)) l)) register received limit bit
 begin-counted m register received limit bit rest =
     let next = clocked register bit in
-    let cost = stepCost next received in
+    let cost = stepCost32 received next in
     let after : ℕ → List ℕ → ℕ → ℕ = λ r e l. countBits m (λ bits. leb (further r e (rest bits)) l) in
     by-test (leb cost limit)
     (λ live.

@@ -20,7 +20,7 @@ use Rattle.distance.specs.Prefixes.{freeOf, prefixBits, prefixesOf, diff
 use Rattle.distance.proofs.Bits.{differences-sym, differences-none, triangle}
 use Rattle.distance.proofs.PrefixLaws.{word-disagreements, live-within}
 use Rattle.distance.proofs.Recentred.{zeroBits, liveOf-clean, liveCount-clean, liveCount-flipped}
-use Rattle.distance.proofs.Tree.{parity32, stepCost, step, level, tree, liveOf-level, liveCount-tree}
+use Rattle.distance.proofs.Tree.{parity32, stepCost32, step, level, tree, liveOf-level, liveCount-tree}
 
 -- ---- Computed
 
@@ -29,12 +29,12 @@ abbrev pub zeroCounts : List ℕ
 zeroCounts = 81 ∷ 81 ∷ 131 ∷ 279 ∷ 569 ∷ 1573 ∷ []
 
 trees-computed : tabulate 6 (tree 81 50 0 zeroBits) ≡ zeroCounts
-unfolding tabulate tree step stepCost parity32 onesIn clocked firstMask secondMask differences
+unfolding tabulate tree step stepCost32 parity32 onesIn clocked firstMask secondMask differences
 trees-computed = refl
 
 -- Of the prefixes of 81 bits, one alone is within five places of the zero word's: its own.
 words-computed : level 81 50 0 zeroBits 5 ≡ 1
-unfolding level step stepCost parity32 onesIn clocked firstMask secondMask differences
+unfolding level step stepCost32 parity32 onesIn clocked firstMask secondMask differences
 words-computed = refl
 
 -- ---- For every word

@@ -28,7 +28,11 @@ pub(crate) fn zero_cost(received: &[u8; 162], depth: usize, number: u64) -> u32
     requires { ⌜ depth < 81 ⌝ }
     ensures { λ r. ⌜ r ≡ zeroCost (now (received .entry)) depth number ⌝ }
 {
-    step_cost(received, depth, convolution::clock(prefix::register(depth, number), 0))
+    step_cost(
+        received,
+        depth,
+        convolution::clock(prefix::register(depth, number), 0),
+    )
 }
 
 // What a branch adds, given what a 0 does: the coded bits of a 1 are the others.

@@ -17,7 +17,11 @@ pub(crate) fn child(depth: usize, number: u64, branch: u64) -> u64
     requires { ⌜ branch < 2 ⌝ }
     ensures { λ r. ⌜ r ≡ childOf depth number branch ⌝ }
 {
-    if depth < 50 { 2 * number + branch } else { number }
+    if depth < 50 {
+        2 * number + branch
+    } else {
+        number
+    }
 }
 
 // The number of the prefix, `depth` bits long, that this one makes longer.

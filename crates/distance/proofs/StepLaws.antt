@@ -1,0 +1,239 @@
+-- Laws of steps: a prefix that is one bit longer, its register, and what the bit adds to the disagreements.
+use mathlib.Core.Path.{_≡_, refl, sym, ap, ap₂, _∙_}
+use Prim.Native.Nat.{ℕ, zero, suc, _+_, _-_, _*_, _/_, _%_, _^_, _≤_, _<_}
+use native.Mathlib.Nat.{add-zero, mul-assoc, mul-comm, pow-suc}
+use native.Mathlib.Numerals.{add-one}
+use native.Mathlib.Omega.{arith}
+use mathlib.Core.List.{List, [], _∷_, _++_, append-assoc}
+use lib.ListN.{length, take, drop, replicate, length-drop, take-append-drop, replicate-append-replicate}
+use lib.Pow.{shr-shr}
+use lib.Seq.{take-take}
+use borrow.Author.Tests.{lt-ltb, le-ltb}
+use Rattle.basics.proofs.Choice.{below-or-not}
+use Rattle.radix.specs.Numeral.{digitsOf, numberFrom, numberOf}
+use Rattle.radix.proofs.Laws.{numberOf-digitsOf}
+use Rattle.convolution.specs.Code.{bitsOf, clockedBits, clocked, firstMask, secondMask, parity, codedFrom}
+use Rattle.convolution.proofs.CodeLaws.{count-bits, positive-bits, length-bitsOf, length-codedFrom, first-odd, second-odd, parity-other}
+use Rattle.distance.specs.Prefixes.{freeOf, prefixBits, prefixesOf, differences, disagreements}
+use Rattle.distance.specs.Steps.{branchesOf, childOf, parentOf, lastBranch, registerOf, stepCost, zeroCost, branchCost}
+use Rattle.distance.proofs.Bits.{AllBits, bits-drop, unlike, unlike-most, unlike-others, differences-append}
+use Rattle.distance.proofs.PrefixLaws.{free-first, free-later, all-free, prefix-of-word, length-prefixBits, registerAfter, codedFrom-append, disagreements-grow}
+
+-- ---- Branches
+
+-- Up to the fiftieth bit, and after it.
+module _ (k : ℕ) (h : k < 50) where
+  pub branches-first : branchesOf k ≡ 2
+  unfolding branchesOf
+  branches-first = rw (lt-ltb k 50 h)
+
+  pub child-first : (number branch : ℕ) → childOf k number branch ≡ 2 * number + branch
+  unfolding childOf
+  child-first number branch = rw (lt-ltb k 50 h)
+
+  pub parent-first : (number : ℕ) → parentOf k number ≡ number / 2
+  unfolding parentOf
+  parent-first number = rw (lt-ltb k 50 h)
+
+  pub last-first : (number : ℕ) → lastBranch k number ≡ number % 2
+  unfolding lastBranch
+  last-first number = rw (lt-ltb k 50 h)
+
+  prefixes-first : prefixesOf (k + 1) ≡ prefixesOf k * 2
+  unfolding prefixesOf
+  prefixes-first = rw (add-one k, free-first (suc k) h, free-first k (omega arith)) (pow-suc 2 k)
+
+module _ (k : ℕ) (h : 50 ≤ k) where
+  pub branches-later : branchesOf k ≡ 1
+  unfolding branchesOf
+  branches-later = rw (le-ltb k 50 h)
+
+  pub child-later : (number branch : ℕ) → childOf k number branch ≡ number
+  unfolding childOf
+  child-later number branch = rw (le-ltb k 50 h)
+
+  pub parent-later : (number : ℕ) → parentOf k number ≡ number
+  unfolding parentOf
+  parent-later number = rw (le-ltb k 50 h)
+
+  pub last-later : (number : ℕ) → lastBranch k number ≡ 0
+  unfolding lastBranch
+  last-later number = rw (le-ltb k 50 h)
+
+  prefixes-later : prefixesOf (k + 1) ≡ prefixesOf k
+  unfolding prefixesOf
+  prefixes-later = rw (free-later (k + 1) (omega arith), free-later k h)
+
+module _ (k : ℕ) where
+  pub branches-most : branchesOf k ≤ 2
+  branches-most = below-or-not k 50 (λ first. omega (arith, branches-first k first)) (λ later. omega (arith, branches-later k later))
+
+  -- Longer, and the number is that of a prefix still.
+  pub child-below : (number branch : ℕ) → number < prefixesOf k → branch < branchesOf k → childOf k number branch < prefixesOf (k + 1)
+  child-below number branch h b =
+      below-or-not k 50
+      (λ first. omega (arith, child-first k first number branch, branches-first k first, prefixes-first k first))
+      (λ later. omega (arith, child-later k later number branch, prefixes-later k later))
+
+  -- Back, and longer by the branch again.
+  module _ (number : ℕ) where
+    pub parent-below : number < prefixesOf (k + 1) → parentOf k number < prefixesOf k
+    parent-below h =
+        below-or-not k 50
+        (λ first. omega (arith, parent-first k first number, prefixes-first k first))
+        (λ later. omega (arith, parent-later k later number, prefixes-later k later))
+
+    pub last-below : lastBranch k number < branchesOf k
+    last-below =
+        below-or-not k 50
+        (λ first. omega (arith, last-first k first number, branches-first k first))
+        (λ later. omega (arith, last-later k later number, branches-later k later))
+
+    pub child-parent : childOf k (parentOf k number) (lastBranch k number) ≡ number
+    child-parent =
+        below-or-not k 50
+        (λ first. rw (child-first k first, parent-first k first, last-first k first) (omega arith))
+        (λ later. rw (child-later k later, parent-later k later))
+
+-- ---- Bits
+
+-- A new lowest bit comes last.
+bits-longer : (m number bit : ℕ) → bit < 2 → bitsOf (suc m) (2 * number + bit) ≡ bitsOf m number ++ (bit ∷ [])
+unfolding bitsOf digitsOf
+bits-longer zero number bit h = let lowest : (2 * number + bit) / 1 % 2 ≡ bit = omega arith in rw (count-bits 0, lowest)
+bits-longer (suc m) number bit h =
+    let longer : suc m ≡ 1 + m = omega arith in
+    let half : (2 * number + bit) / 2 ^ 1 ≡ number = omega arith in
+    ap₂ (λ (x : ℕ) (xs : List ℕ). x ∷ xs)
+    (rw (count-bits (suc m), count-bits m, longer, ← shr-shr (2 * number + bit) 1 m, half))
+    (bits-longer m number bit h)
+
+-- After the fiftieth bit zeros follow.
+zero-longer : (k number : ℕ) → 50 ≤ k → prefixBits (k + 1) number ≡ prefixBits k number ++ (0 ∷ [])
+unfolding prefixBits
+zero-longer k number h =
+    let more : k + 1 - 50 ≡ k - 50 + 1 = omega arith in
+    rw (free-later (k + 1) (omega arith), free-later k h, more, ← replicate-append-replicate {A = ℕ} (k - 50) 1 0)
+    (sym (append-assoc (bitsOf 50 number) (replicate (k - 50) 0) (0 ∷ [])))
+
+pub prefix-child : (k number branch : ℕ) → branch < branchesOf k
+    → prefixBits (k + 1) (childOf k number branch) ≡ prefixBits k number ++ (branch ∷ [])
+prefix-child k number branch b =
+    below-or-not k 50
+    (λ first.
+    rw (child-first k first number branch, add-one k, all-free (suc k) _ first, all-free k number (omega arith))
+    (bits-longer k number branch (omega (arith, branches-first k first))))
+    (λ later.
+    let only : branch ≡ 0 = omega (arith, branches-later k later) in
+    rw (child-later k later number branch, only) (zero-longer k number later))
+
+-- ---- Registers
+
+-- The register is the number that the bits write, modulo 2^32.
+clocked-number : (n bit : ℕ) → clocked (n % 2 ^ 32) bit ≡ (n * 2 + bit) % 2 ^ 32
+unfolding clocked
+clocked-number n bit = omega arith
+
+register-number : (n : ℕ) (bits : List ℕ) → registerAfter (n % 2 ^ 32) bits ≡ numberFrom n (replicate (length bits) 2) bits % 2 ^ 32
+unfolding registerAfter numberFrom
+register-number n [] = refl
+register-number n (bit ∷ bits) = rw (clocked-number n bit) (register-number (n * 2 + bit) bits)
+
+register-append : (register : ℕ) (bits more : List ℕ) → registerAfter register (bits ++ more) ≡ registerAfter (registerAfter register bits) more
+unfolding registerAfter
+register-append register [] more = refl
+register-append register (bit ∷ bits) more = register-append (clocked register bit) bits more
+
+-- Each zero doubles it.
+register-zeros : (n j : ℕ) → registerAfter (n % 2 ^ 32) (replicate j 0) ≡ n * 2 ^ j % 2 ^ 32
+unfolding registerAfter
+register-zeros n zero = omega arith
+register-zeros n (suc j) =
+    ap (λ (r : ℕ). registerAfter r (replicate j 0)) (clocked-number n 0)
+    ∙ register-zeros (n * 2 + 0) j
+    ∙ rw (add-zero (n * 2), pow-suc 2 j, mul-comm (2 ^ j) 2, ← mul-assoc n 2 (2 ^ j))
+
+-- The register after a prefix, whose number has no bits but the prefix's.
+pub register-prefix : (k number : ℕ) → number < prefixesOf k → registerAfter 0 (prefixBits k number) ≡ registerOf k number
+unfolding prefixBits prefixesOf registerOf bitsOf numberOf
+register-prefix k number h =
+    let free = freeOf k in
+    let radices : List ℕ = replicate free 2 in
+    let first : registerAfter 0 (bitsOf free number) ≡ number % 2 ^ 32 =
+    register-number 0 (bitsOf free number)
+    ∙ rw (length-bitsOf free number, numberOf-digitsOf radices {n = number} (positive-bits free) (rw (count-bits free) h)) in
+    rw (register-append 0 (bitsOf free number) (replicate (k - free) 0), first) (register-zeros number (k - free))
+
+-- ---- Costs
+
+step-most : (received : List ℕ) (register : ℕ) → stepCost received register ≤ 2
+unfolding stepCost differences
+step-most [] register = omega arith
+step-most (x ∷ []) register = omega (arith, unlike-most (parity firstMask register) x)
+step-most (x ∷ y ∷ received) register = omega (arith, unlike-most (parity firstMask register) x, unlike-most (parity secondMask register) y)
+
+pub zeroCost-most : (received : List ℕ) (k number : ℕ) → zeroCost received k number ≤ 2
+unfolding zeroCost
+zeroCost-most received k number = step-most (drop (2 * k) received) (clocked (registerOf k number) 0)
+
+-- A received bit is unlike the coded bit of a 0 or that of a 1.
+coded-others : (mask register x : ℕ) → mask % 2 ≡ 1 → x < 2
+    → unlike (parity mask (clocked register 0)) x + unlike (parity mask (clocked register 1)) x ≡ 1
+coded-others mask register x odd h =
+    unlike-others (parity mask (clocked register 0)) (parity mask (clocked register 1)) x (parity-other mask register odd) h
+
+step-others : (received : List ℕ) (register : ℕ) → 2 ≤ length received → AllBits received
+    → stepCost received (clocked register 0) + stepCost received (clocked register 1) ≡ 2
+unfolding stepCost differences AllBits
+step-others [] register long h = absurd (omega arith)
+step-others (x ∷ []) register long h = absurd (omega arith)
+step-others (x ∷ y ∷ received) register long h =
+    omega (arith, coded-others firstMask register x first-odd (h .0), coded-others secondMask register y second-odd (h .1 .0))
+
+step-branch : (received : List ℕ) (register branch : ℕ) → 2 ≤ length received → AllBits received → branch < 2
+    → stepCost received (clocked register branch) ≡ branchCost (stepCost received (clocked register 0)) branch
+unfolding branchCost
+step-branch received register zero long h b = refl
+step-branch received register (suc zero) long h b = omega (arith, step-others received register long h)
+step-branch received register (suc (suc branch)) long h b = absurd (omega arith)
+
+-- ---- Disagreements
+
+pub prefix-empty : (received : List ℕ) → disagreements received (prefixBits 0 0) ≡ 0
+unfolding disagreements prefixBits freeOf bitsOf digitsOf codedFrom differences
+prefix-empty received = refl
+
+-- One bit more adds the cost of its step.
+disagreements-step : (received bits : List ℕ) (bit : ℕ)
+    → disagreements received (bits ++ (bit ∷ []))
+    ≡ disagreements received bits + stepCost (drop (2 * length bits) received) (clocked (registerAfter 0 bits) bit)
+unfolding disagreements stepCost codedFrom
+disagreements-step received bits bit =
+    rw (codedFrom-append 0 0 bits (bit ∷ []), ← length-codedFrom 0 0 bits)
+    (differences-append (codedFrom 0 0 bits) (codedFrom (registerAfter 0 bits) (registerAfter 0 bits) (bit ∷ [])) received)
+
+-- A longer prefix has the disagreements of the shorter one and those of the step.
+pub disagreements-branch : (received : List ℕ) (k number branch : ℕ) → length received ≡ 162 → AllBits received → k < 81
+    → number < prefixesOf k → branch < branchesOf k
+    → disagreements received (prefixBits (k + 1) (childOf k number branch))
+    ≡ disagreements received (prefixBits k number) + branchCost (zeroCost received k number) branch
+unfolding zeroCost
+disagreements-branch received k number branch long are-bits h n b =
+    let rest = drop (2 * k) received in
+    let two : 2 ≤ length rest = omega (arith, length-drop (2 * k) received) in
+    let bits = prefixBits k number in
+    rw (
+      prefix-child k number branch b,
+      disagreements-step received bits branch,
+      length-prefixBits k number,
+      register-prefix k number n,
+      step-branch rest (registerOf k number) branch two (bits-drop (2 * k) received are-bits) (omega (arith, branches-most k)),
+    )
+
+-- Disagreements grow along the prefixes of one word.
+pub disagreements-along : (received : List ℕ) (j k word : ℕ) → j ≤ k → k ≤ 81
+    → disagreements received (prefixBits j (word / 2 ^ (50 - j))) ≤ disagreements received (prefixBits k (word / 2 ^ (50 - k)))
+disagreements-along received j k word h most =
+    let longer = take k (clockedBits word) in
+    rw (← prefix-of-word j word (omega arith), ← prefix-of-word k word most)
+    (rw (take-append-drop j longer, take-take j k (clockedBits word) h) at (disagreements-grow received (take j longer) (drop j longer)))
