@@ -167,6 +167,19 @@ all-spans k =
     let all : min k 50 + (50 - k) ≡ 50 = omega arith in
     sym (pow-add 2 (min k 50) (50 - k)) ∙ ap (λ (n : ℕ). 2 ^ n) all
 
+-- The empty prefix has them.
+pub prefixes-root : prefixesOf 0 ≡ 1
+unfolding prefixesOf freeOf
+prefixes-root = refl
+
+pub span-root : span 0 ≡ 2 ^ 50
+unfolding span
+span-root = refl
+
+pub prefixes-positive : (k : ℕ) → 0 < prefixesOf k
+unfolding prefixesOf
+prefixes-positive k = pow-pos (freeOf k)
+
 pub prefix-below : (k word : ℕ) → word < 2 ^ 50 → word / span k < prefixesOf k
 prefix-below k word h = div-lt-iff-lt-mul (span-positive k) .1 (rw (all-spans k) h)
 

@@ -1,8 +1,8 @@
 -- The search of repair: what holds whenever it stands at a prefix and is to take a branch of it, and how each of its moves keeps that. The
 -- moves know of the cost of a branch only that it takes a prefix's disagreements to those of the longer one.
-use mathlib.Core.Path.{_≡_, refl, sym, ap, _∙_, subst}
+use mathlib.Core.Path.{_≡_, refl, sym, ap, ap₂, _∙_, subst}
 use Prim.Native.Nat.{ℕ, _+_, _-_, _*_, _/_, _^_, _≤_, _<_}
-use native.Mathlib.Nat.{div-one}
+use native.Mathlib.Nat.{zero-mul, zero-div, div-one}
 use native.Mathlib.Omega.{arith}
 use mathlib.Core.List.{List}
 use lib.ListN.{length, getD, set, length-set}
@@ -11,7 +11,7 @@ use Rattle.basics.proofs.Choice.{equal-or-not}
 use Rattle.distance.specs.Prefixes.{prefixBits, prefixesOf, disagreements, wordDisagreements, liveCount}
 use Rattle.distance.specs.Steps.{branchesOf, childOf, parentOf, lastBranch, zeroCost, branchCost}
 use Rattle.distance.proofs.Bits.{AllBits}
-use Rattle.distance.proofs.Spans.{span, span-positive, span-tail, span-within, share-fewer, within-span, first-of-span, prefix-below, branches-tail, branches-free, child-span, nextWord, next-none, next-more, next-all, next-prefix, next-child, next-below, parent-span, parent-first, lastBranch-below, child-parent}
+use Rattle.distance.proofs.Spans.{span, span-positive, span-tail, span-within, span-root, prefixes-root, prefixes-positive, share-fewer, within-span, first-of-span, prefix-below, branches-tail, branches-free, child-span, nextWord, next-none, next-more, next-all, next-prefix, next-child, next-below, parent-span, parent-first, lastBranch-below, child-parent}
 use Rattle.distance.proofs.Passed.{passedLive, live-enter, live-whole, live-leave, words-dead, live-pass, live-starts, live-ends, live-most}
 use Rattle.distance.proofs.StepLaws.{prefix-empty, disagreements-branch}
 use Rattle.repair.specs.Search.{noneFound, nearerOf, BestBelow, Searched}
@@ -35,17 +35,36 @@ pub record Walking (received : List ℕ) (limit budget : ℕ) (costs : List ℕ)
   pub room : length costs ≡ 81
   pub costs-are : (j : ℕ) → j ≤ depth → getD costs j 0 ≡ zeroCost received j (number * span depth / span j)
 
-module _ {received : List ℕ} {limit budget : ℕ} where
-  -- A word is a prefix of 81 bits.
-  word-at : (word : ℕ) → disagreements received (prefixBits 81 (word / span 81)) ≡ wordDisagreements received word
-  unfolding wordDisagreements
-  word-at word = rw (span-tail 81 (omega arith), div-one word)
+-- A word is a prefix of 81 bits.
+word-at : (received : List ℕ) (word : ℕ) → disagreements received (prefixBits 81 (word / span 81)) ≡ wordDisagreements received word
+unfolding wordDisagreements
+word-at received word = rw (span-tail 81 (omega arith), div-one word)
 
+module _ {received : List ℕ} {limit budget : ℕ} where
   -- ---- Start
 
   pub walk-starts : (costs : List ℕ) (cost : ℕ) → length received ≡ 162 → AllBits received → length costs ≡ 81 → cost ≡ zeroCost received 0 0
       → Walking received limit budget (set costs 0 cost) (noneFound limit) 0 0 0 0 0
-  walk-starts costs cost long are-bits room e = ?
+  walk-starts costs cost long are-bits room e =
+      let none : nextWord 0 0 0 ≡ 0 = omega (arith, zero-mul (span 0), zero-mul (span 1)) in
+      let zero-first : 0 * span 0 ≡ 0 = zero-mul (span 0) in
+      record {
+        long = long;
+        are-bits = are-bits;
+        depth-most = omega arith;
+        number-below = prefixes-positive 0;
+        branch-most = omega arith;
+        distance-is = sym (prefix-empty received);
+        near = omega arith;
+        live-is = rw (none, zero-first) (sym (live-starts received limit));
+        live-within = omega arith;
+        best-is = rw none (best-starts received limit);
+        room = length-set costs 0 cost ∙ room;
+        costs-are =
+            λ j h.
+                let at-0 : j ≡ 0 = omega arith in
+                rw (at-0, zero-first, zero-div (span 0)) (getD-set-same costs 0 cost 0 (omega arith) ∙ e);
+      }
 
   module _ {costs : List ℕ} {best : Best} {live depth number distance branch : ℕ}
       (w : Walking received limit budget costs best live depth number distance branch) where
@@ -93,27 +112,163 @@ module _ {received : List ℕ} {limit budget : ℕ} where
       pub walk-down : (longer cost : ℕ) → longer ≡ distance + branchCost (getD costs depth 0) branch → longer ≤ limit → live + 1 ≤ budget
           → depth < 80 → cost ≡ zeroCost received (depth + 1) child
           → Walking received limit budget (set costs (depth + 1) cost) best (live + 1) (depth + 1) child longer 0
-      walk-down longer cost e near within before is-cost = ?
+      walk-down longer cost e near within before is-cost =
+          let stands : child * span (depth + 1) ≡ next = child-span depth number branch h in
+          let none : nextWord (depth + 1) child 0 ≡ next = next-none (depth + 1) child ∙ stands in
+          record {
+            long = w .long;
+            are-bits = w .are-bits;
+            depth-most = omega arith;
+            number-below = rw (← next-child depth number branch h) (prefix-below (depth + 1) next next-in);
+            branch-most = omega arith;
+            distance-is = e ∙ branch-distance;
+            near = near;
+            live-is = rw (none, stands) (entered longer e near);
+            live-within = within;
+            best-is = rw none (w .best-is);
+            room = length-set costs (depth + 1) cost ∙ w .room;
+            costs-are =
+                λ j k.
+                    equal-or-not j (depth + 1)
+                    (λ here.
+                    rw (here, first-of-span (depth + 1) child) (getD-set-same costs (depth + 1) cost 0 (omega (arith, w .room)) ∙ is-cost))
+                    (λ earlier.
+                    rw (stands, share-fewer j depth next first (omega arith) with-first)
+                    (getD-set-other costs (depth + 1) j cost 0 (λ same. absurd (omega arith)) ∙ w .costs-are j (omega arith)));
+          }
 
       -- ---- Past a live word
 
       pub walk-word : (longer : ℕ) → longer ≡ distance + branchCost (getD costs depth 0) branch → longer ≤ limit → live + 1 ≤ budget
           → 80 ≤ depth → Walking received limit budget costs (nearerOf best number longer) (live + 1) depth number distance (branch + 1)
-      walk-word longer e near within last = ?
+      walk-word longer e near within last =
+          let at-80 : depth ≡ 80 = omega (arith, w .depth-most) in
+          let zero-branch : branch ≡ 0 = omega (arith, branches-tail depth (omega arith)) in
+          let one-more : nextWord depth number (branch + 1) ≡ next + 1 =
+          next-more depth number branch ∙ ap (λ (n : ℕ). next + n) (span-tail (depth + 1) (omega arith)) in
+          let word : next ≡ number = rw (zero-branch, next-none depth number, span-tail depth (omega arith)) (omega arith) in
+          let its : wordDisagreements received next ≡ longer =
+          sym (word-at received next)
+          ∙ ap (λ (k : ℕ). disagreements received (prefixBits (k + 1) (next / span (k + 1)))) (sym at-80)
+          ∙ rw (next-child depth number branch h) (sym (e ∙ branch-distance)) in
+          let counted : passedLive received limit (depth + 1) next next ≡ passedLive received limit depth first (next + span (depth + 1)) =
+          rw at-80 (live-whole received limit (nextWord 80 number branch) (nextWord 80 number branch) (nextWord 80 number branch + span 81)
+          ∙ live-leave received limit 80 (nextWord 80 number branch) (number * span 80) (rw at-80 at with-first)) in
+          record {
+            long = w .long;
+            are-bits = w .are-bits;
+            depth-most = w .depth-most;
+            number-below = w .number-below;
+            branch-most = omega arith;
+            distance-is = w .distance-is;
+            near = w .near;
+            live-is = rw (next-more depth number branch) (entered longer e near ∙ counted);
+            live-within = within;
+            best-is =
+                rw one-more
+                (subst (λ (n : ℕ). BestBelow received limit (next + 1) (nearerOf best n longer)) word
+                (best-takes received limit next longer best its near (w .best-is)));
+            room = w .room;
+            costs-are = w .costs-are;
+          }
 
       -- ---- Past a branch that isn't live
 
       pub walk-past : (longer : ℕ) → longer ≡ distance + branchCost (getD costs depth 0) branch → limit < longer
           → Walking received limit budget costs best live depth number distance (branch + 1)
-      walk-past longer e far = ?
+      walk-past longer e far =
+          let stands : child * span (depth + 1) ≡ next = child-span depth number branch h in
+          let dead : limit < disagreements received (prefixBits (depth + 1) child) = omega (arith, e ∙ branch-distance) in
+          record {
+            long = w .long;
+            are-bits = w .are-bits;
+            depth-most = w .depth-most;
+            number-below = w .number-below;
+            branch-most = omega arith;
+            distance-is = w .distance-is;
+            near = w .near;
+            live-is =
+                rw (next-more depth number branch) (w .live-is ∙ sym (rw stands at (live-pass received limit depth first child dead)));
+            live-within = w .live-within;
+            best-is =
+                rw (next-more depth number branch)
+                (best-passes received limit next (next + span (depth + 1)) best (omega arith) (all-dead stands dead) (w .best-is));
+            room = w .room;
+            costs-are = w .costs-are;
+          }
+        where
+          -- No word with a prefix that isn't live is within the limit.
+          all-dead : child * span (depth + 1) ≡ next → limit < disagreements received (prefixBits (depth + 1) child)
+              → (word : ℕ) → next ≤ word → word < next + span (depth + 1) → limit < wordDisagreements received word
+          all-dead stands dead word from to =
+              let rest : child * span (depth + 1) + (word - next) ≡ word = omega arith in
+              let begins : word / span (depth + 1) ≡ child = rw rest at (within-span (depth + 1) child (word - next) (omega arith)) in
+              rw (← word-at received word)
+              (words-dead received limit (depth + 1) child word 81 begins dead (omega (arith, w .depth-most)) (omega arith))
 
     -- ---- Back up
 
-    pub walk-up : (d : ℕ) → depth ≡ d + 1 → branchesOf depth ≤ branch
-        → Walking received limit budget costs best live d (parentOf d number) (distance - branchCost (getD costs d 0) (lastBranch d number)) (lastBranch d number + 1)
-    walk-up d e done = ?
+    module _ (d : ℕ) (e : depth ≡ d + 1) (done : branchesOf depth ≤ branch) where
+      abbrev parent : ℕ
+      parent = parentOf d number
+
+      abbrev last : ℕ
+      last = lastBranch d number
+
+      -- The words with the prefix begin with the one that it is longer than, and all of them are passed.
+      begins : first / span d ≡ parent
+      begins = rw e (parent-first d number)
+
+      all-passed : next ≡ first + span depth
+      all-passed =
+          let at-end : branch ≡ branchesOf depth = omega (arith, w .branch-most) in
+          rw at-end (next-all depth number)
+
+      parent-below : parent < prefixesOf d
+      parent-below = rw (← begins) (prefix-below d first (omega (arith, span-within depth number (w .number-below), span-positive depth)))
+
+      pub up-cost : getD costs d 0 ≡ zeroCost received d parent
+      up-cost = w .costs-are d (omega arith) ∙ ap (zeroCost received d) begins
+
+      pub up-distance : distance ≡ disagreements received (prefixBits d parent) + branchCost (getD costs d 0) last
+      up-distance =
+          let step = disagreements-branch received d parent last (w .long) (w .are-bits) (omega (arith, w .depth-most)) parent-below (lastBranch-below d number) in
+          rw up-cost
+          (w .distance-is ∙ ap₂ (λ (k n : ℕ). disagreements received (prefixBits k n)) e (sym (child-parent d number)) ∙ step)
+
+      pub walk-up : Walking received limit budget costs best live d parent (distance - branchCost (getD costs d 0) last) (last + 1)
+      walk-up =
+          let next-same : nextWord d parent (last + 1) ≡ next = parent-span d number ∙ sym (all-passed ∙ ap (λ (k : ℕ). number * span k + span k) e) in
+          let with-parent : number * span (d + 1) / span d ≡ parent * span d / span d = parent-first d number ∙ sym (first-of-span d parent) in
+          record {
+            long = w .long;
+            are-bits = w .are-bits;
+            depth-most = omega (arith, w .depth-most);
+            number-below = parent-below;
+            branch-most = omega (arith, lastBranch-below d number);
+            distance-is = omega (arith, up-distance);
+            near = omega (arith, w .near);
+            live-is =
+                rw (parent-span d number)
+                (w .live-is ∙ rw (all-passed, e) (live-leave received limit d (number * span (d + 1)) (parent * span d) with-parent));
+            live-within = w .live-within;
+            best-is = rw next-same (w .best-is);
+            room = w .room;
+            costs-are =
+                λ j h.
+                    rw (← share-fewer j d (number * span (d + 1)) (parent * span d) h with-parent)
+                    (rw e at (w .costs-are j (omega arith)));
+          }
 
     -- ---- End
 
     pub walk-ends : depth ≡ 0 → branchesOf depth ≤ branch → Searched received limit budget (record { live = live; best = best })
-    walk-ends e done = ?
+    walk-ends e done =
+        let at-end : branch ≡ branchesOf depth = omega (arith, w .branch-most) in
+        let root : number ≡ 0 = omega (arith, rw (e, prefixes-root) at (w .number-below)) in
+        let all : next ≡ 2 ^ 50 = rw (at-end, next-all depth number, root, e, zero-mul (span 0), span-root) in
+        record {
+          over-budget = λ over. absurd (omega (arith, w .live-within));
+          counted = λ h. w .live-is ∙ rw (all, root, e, zero-mul (span 0)) (live-ends received limit);
+          best-of-all = λ h. rw all at (w .best-is);
+        }
