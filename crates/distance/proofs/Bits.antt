@@ -23,6 +23,11 @@ unfoldable pub AllBits : List ℕ → Type 0
 AllBits [] = Unit
 AllBits (x ∷ xs) = (x < 2) × AllBits xs
 
+pub bits-each : (xs : List ℕ) → ((i : ℕ) → i < length xs → getD xs i 0 < 2) → AllBits xs
+unfolding AllBits
+bits-each [] h = tt
+bits-each (x ∷ xs) h = (h 0 (omega arith), bits-each xs (λ i k. h (suc i) (omega arith)))
+
 pub bits-append : (xs ys : List ℕ) → AllBits xs → AllBits ys → AllBits (xs ++ ys)
 unfolding AllBits
 bits-append [] ys h k = k

@@ -6,7 +6,7 @@ use native.Mathlib.Nat.{pow-suc, add-mul, mul-assoc, mul-comm, zero-mul, one-mul
 use native.Mathlib.Numerals.{add-one}
 use native.Mathlib.Omega.{arith}
 use lib.Arith.{digits-div}
-use lib.Pow.{pow-add, pow-pos, shr-shr, shr-mono}
+use lib.Pow.{pow-add, pow-mono, pow-pos, shr-shr, shr-mono}
 use borrow.Author.Tests.{lt-ltb, le-ltb}
 use Rattle.basics.proofs.Choice.{below-or-not}
 use Rattle.distance.specs.Prefixes.{freeOf, prefixesOf}
@@ -179,6 +179,10 @@ span-root = refl
 pub prefixes-positive : (k : ℕ) → 0 < prefixesOf k
 unfolding prefixesOf
 prefixes-positive k = pow-pos (freeOf k)
+
+pub prefixes-all : (k : ℕ) → prefixesOf k ≤ 2 ^ 50
+unfolding prefixesOf freeOf
+prefixes-all k = pow-mono {i = min k 50} {j = 50} (omega arith)
 
 pub prefix-below : (k word : ℕ) → word < 2 ^ 50 → word / span k < prefixesOf k
 prefix-below k word h = div-lt-iff-lt-mul (span-positive k) .1 (rw (all-spans k) h)

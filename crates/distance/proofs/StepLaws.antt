@@ -5,11 +5,12 @@ use native.Mathlib.Nat.{add-zero, mul-assoc, mul-comm, pow-suc}
 use native.Mathlib.Numerals.{add-one}
 use native.Mathlib.Omega.{arith}
 use mathlib.Core.List.{List, [], _∷_, _++_, append-assoc}
+use lib.Dec.{eqb}
 use lib.ListN.{length, take, drop, replicate, length-drop, take-append-drop, replicate-append-replicate}
 use lib.Pow.{shr-shr}
 use lib.Seq.{take-take}
 use borrow.Author.Tests.{lt-ltb, le-ltb}
-use Rattle.basics.proofs.Choice.{below-or-not}
+use Rattle.basics.proofs.Choice.{cond-both, below-or-not}
 use Rattle.radix.specs.Numeral.{digitsOf, numberFrom, numberOf}
 use Rattle.radix.proofs.Laws.{numberOf-digitsOf}
 use Rattle.convolution.specs.Code.{bitsOf, clockedBits, clocked, firstMask, secondMask, parity, codedFrom}
@@ -196,6 +197,10 @@ unfolding branchCost
 step-branch received register zero long h b = refl
 step-branch received register (suc zero) long h b = omega (arith, step-others received register long h)
 step-branch received register (suc (suc branch)) long h b = absurd (omega arith)
+
+pub branchCost-most : (cost branch : ℕ) → cost ≤ 2 → branchCost cost branch ≤ 2
+unfolding branchCost
+branchCost-most cost branch h = cond-both (λ n. n ≤ 2) (eqb branch 0) h (omega arith)
 
 -- ---- Disagreements
 

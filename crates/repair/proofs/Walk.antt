@@ -10,11 +10,11 @@ use lib.Seq.{getD-set-same, getD-set-other}
 use Rattle.basics.proofs.Choice.{equal-or-not}
 use Rattle.distance.specs.Prefixes.{prefixBits, prefixesOf, disagreements, wordDisagreements, liveCount}
 use Rattle.distance.specs.Steps.{branchesOf, childOf, parentOf, lastBranch, zeroCost, branchCost}
-use Rattle.distance.proofs.Bits.{AllBits}
-use Rattle.distance.proofs.Spans.{span, span-positive, span-tail, span-within, span-root, prefixes-root, prefixes-positive, share-fewer, within-span, first-of-span, prefix-below, branches-tail, branches-free, child-span, nextWord, next-none, next-more, next-all, next-prefix, next-child, next-below, parent-span, parent-first, lastBranch-below, child-parent}
+use Rattle.distance.proofs.Bits.{AllBits, bits-each}
+use Rattle.distance.proofs.Spans.{span, span-positive, span-tail, span-within, span-root, prefixes-root, prefixes-positive, prefixes-all, share-fewer, within-span, first-of-span, prefix-below, branches-tail, branches-free, child-span, nextWord, next-none, next-more, next-all, next-prefix, next-child, next-below, parent-span, parent-first, lastBranch-below, child-parent}
 use Rattle.distance.proofs.Passed.{passedLive, live-enter, live-whole, live-leave, words-dead, live-pass, live-starts, live-ends, live-most}
-use Rattle.distance.proofs.StepLaws.{prefix-empty, disagreements-branch}
-use Rattle.repair.specs.Search.{noneFound, nearerOf, BestBelow, Searched}
+use Rattle.distance.proofs.StepLaws.{prefix-empty, zeroCost-most, disagreements-branch}
+use Rattle.repair.specs.Search.{noneFound, nearerOf, BestBelow, Received, Searched}
 use Rattle.repair.specs.declared.best.Best.{Best}
 use Rattle.repair.specs.declared.search.Found.{Found}
 use Rattle.repair.proofs.BestLaws.{best-starts, best-passes, best-takes}
@@ -43,14 +43,14 @@ word-at received word = rw (span-tail 81 (omega arith), div-one word)
 module _ {received : List ℕ} {limit budget : ℕ} where
   -- ---- Start
 
-  pub walk-starts : (costs : List ℕ) (cost : ℕ) → length received ≡ 162 → AllBits received → length costs ≡ 81 → cost ≡ zeroCost received 0 0
+  pub walk-starts : (costs : List ℕ) (cost : ℕ) → Received received → length costs ≡ 81 → cost ≡ zeroCost received 0 0
       → Walking received limit budget (set costs 0 cost) (noneFound limit) 0 0 0 0 0
-  walk-starts costs cost long are-bits room e =
+  walk-starts costs cost received-bits room e =
       let none : nextWord 0 0 0 ≡ 0 = omega (arith, zero-mul (span 0), zero-mul (span 1)) in
       let zero-first : 0 * span 0 ≡ 0 = zero-mul (span 0) in
       record {
-        long = long;
-        are-bits = are-bits;
+        long = received-bits .long;
+        are-bits = bits-each received (λ i h. received-bits .are-bits i (omega (arith, received-bits .long)));
         depth-most = omega arith;
         number-below = prefixes-positive 0;
         branch-most = omega arith;
@@ -76,8 +76,14 @@ module _ {received : List ℕ} {limit budget : ℕ} where
 
     -- ---- A branch
 
-    pub cost-is : getD costs depth 0 ≡ zeroCost received depth number
+    cost-is : getD costs depth 0 ≡ zeroCost received depth number
     cost-is = w .costs-are depth (omega arith) ∙ ap (zeroCost received depth) (first-of-span depth number)
+
+    pub cost-most : getD costs depth 0 ≤ 2
+    cost-most = rw cost-is (zeroCost-most received depth number)
+
+    pub number-in : number < 2 ^ 50
+    number-in = omega (arith, w .number-below, prefixes-all depth)
 
     module _ (h : branch < branchesOf depth) where
       abbrev child : ℕ
@@ -227,7 +233,7 @@ module _ {received : List ℕ} {limit budget : ℕ} where
       parent-below : parent < prefixesOf d
       parent-below = rw (← begins) (prefix-below d first (omega (arith, span-within depth number (w .number-below), span-positive depth)))
 
-      pub up-cost : getD costs d 0 ≡ zeroCost received d parent
+      up-cost : getD costs d 0 ≡ zeroCost received d parent
       up-cost = w .costs-are d (omega arith) ∙ ap (zeroCost received d) begins
 
       pub up-distance : distance ≡ disagreements received (prefixBits d parent) + branchCost (getD costs d 0) last
@@ -235,6 +241,9 @@ module _ {received : List ℕ} {limit budget : ℕ} where
           let step = disagreements-branch received d parent last (w .long) (w .are-bits) (omega (arith, w .depth-most)) parent-below (lastBranch-below d number) in
           rw up-cost
           (w .distance-is ∙ ap₂ (λ (k n : ℕ). disagreements received (prefixBits k n)) e (sym (child-parent d number)) ∙ step)
+
+      pub up-most : getD costs d 0 ≤ 2
+      up-most = rw up-cost (zeroCost-most received d parent)
 
       pub walk-up : Walking received limit budget costs best live d parent (distance - branchCost (getD costs d 0) last) (last + 1)
       walk-up =

@@ -4,7 +4,7 @@ use Prim.Native.Nat.{ℕ, _+_, _^_, _≤_, _<_}
 use mathlib.Core.Bool.{cond}
 use mathlib.Core.List.{List}
 use lib.Dec.{ltb}
-use lib.ListN.{getD}
+use lib.ListN.{length, getD}
 use Rattle.distance.specs.Prefixes.{wordDisagreements, liveCount}
 use Rattle.repair.specs.declared.best.Best.{Best}
 use Rattle.repair.specs.declared.search.Found.{Found}
@@ -34,9 +34,10 @@ pub record BestBelow (received : List ℕ) (limit bound : ℕ) (best : Best) : T
 
 -- ---- What a search found
 
--- What is searched for is bits.
-abbrev pub OnlyBits : List ℕ → Type 0
-OnlyBits received = (index : ℕ) → index < 162 → getD received index 0 < 2
+-- What is received: 162 bits.
+pub record Received (received : List ℕ) : Type 0 where
+  pub long : length received ≡ 162
+  pub are-bits : (index : ℕ) → index < 162 → getD received index 0 < 2
 
 -- The count is above the budget only where the live count is; else it is the live count, and the record is that of all words.
 pub record Searched (received : List ℕ) (limit budget : ℕ) (found : Found) : Type 0 where

@@ -1,7 +1,7 @@
 // The disagreements that a step adds.
 ghost use mathlib.Core.Path.{_≡_};
 ghost use Prim.Native.Nat.{_+_, _*_, _≤_, _<_};
-ghost use lib.ListN.{drop};
+ghost use lib.ListN.{drop, replicate, set};
 ghost use lib.Dec.{eqb};
 ghost use mathlib.Core.Bool.{cond};
 ghost use Rattle.distance.specs.Steps.{stepCost, zeroCost, branchCost};
@@ -33,6 +33,15 @@ pub(crate) fn zero_cost(received: &[u8; 162], depth: usize, number: u64) -> u32
         depth,
         convolution::clock(prefix::register(depth, number), 0),
     )
+}
+
+// What a 0 after each prefix on the way costs, at the start of a search: the way has the empty prefix alone.
+pub(crate) fn root_costs(received: &[u8; 162]) -> [u32; 81]
+    ensures { λ r. ⌜ r ≡ set (replicate 81 0) 0 (zeroCost (now (received .entry)) 0 0) ⌝ }
+{
+    let mut costs = [0u32; 81];
+    costs[0] = zero_cost(received, 0, 0);
+    costs
 }
 
 // What a branch adds, given what a 0 does: the coded bits of a 1 are the others.

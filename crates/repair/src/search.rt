@@ -1,6 +1,6 @@
 // The search: every live prefix is visited once, depth first, and counted.
 ghost use Prim.Native.Nat.{_≤_};
-ghost use Rattle.repair.specs.Search.{OnlyBits, Searched};
+ghost use Rattle.repair.specs.Search.{Received, Searched};
 use super::best;
 use super::best::Best;
 use super::cost;
@@ -14,13 +14,12 @@ pub(crate) struct Found {
 
 // Visits each live prefix, those that are longer after it, and leaves where there are more than the budget.
 pub(crate) fn search(received: &[u8; 162], limit: u32, budget: u32) -> Found
-    requires { ⌜ OnlyBits (now received) ⌝ }
+    requires { ⌜ Received (now received) ⌝ }
     requires { ⌜ limit ≤ 12 ⌝ }
     requires { ⌜ budget ≤ 65_536 ⌝ }
     ensures { λ r. ⌜ Searched (now (received .entry)) limit budget r ⌝ }
 {
-    let mut costs = [0u32; 81];
-    costs[0] = cost::zero_cost(received, 0, 0);
+    let mut costs = cost::root_costs(received);
     let mut best = best::none_found(limit);
     let mut live: u32 = 0;
     let mut depth = 0;
