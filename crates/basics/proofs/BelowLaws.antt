@@ -134,9 +134,16 @@ pub count-reordered : (n : ℕ) (f g : ℕ → ℕ) → ((i : ℕ) → i < n →
 unfolding countBelow
 count-reordered n f g f-below g-f g-below f-g t = sum-reordered n f g f-below g-f g-below f-g (λ i. cond (t i) 1 0)
 
+count-skipped : (n : ℕ) (t : ℕ → Bool) → t n ≡ false → countBelow (suc n) t ≡ countBelow n t
+unfolding countBelow sumBelow
+count-skipped n t e = rw e (add-zero (sumBelow n (λ i. cond (t i) 1 0)))
+
 count-last : (n : ℕ) (t : ℕ → Bool) → t n ≡ true → countBelow (suc n) t ≡ countBelow n t + 1
 unfolding countBelow sumBelow
 count-last n t e = rw e
+
+pub count-kept : (n : ℕ) (t : ℕ → Bool) → t n ≡ false → countBelow (n + 1) t ≡ countBelow n t
+count-kept n t e = rw (add-one n) (count-skipped n t e)
 
 pub count-raised : (n : ℕ) (t : ℕ → Bool) → t n ≡ true → countBelow (n + 1) t ≡ countBelow n t + 1
 count-raised n t e = rw (add-one n) (count-last n t e)
@@ -167,10 +174,6 @@ count-two (suc n) t i j h k e f =
     (λ before. omega (arith, count-two n t i j h (omega arith) e f, count-more n t))
 
 -- What is counted is found.
-count-skipped : (n : ℕ) (t : ℕ → Bool) → t n ≡ false → countBelow (suc n) t ≡ countBelow n t
-unfolding countBelow sumBelow
-count-skipped n t e = rw e (add-zero (sumBelow n (λ i. cond (t i) 1 0)))
-
 pub count-found : (n : ℕ) (t : ℕ → Bool) → 1 ≤ countBelow n t → (i : ℕ) × ((i < n) × (t i ≡ true))
 count-found zero t h = absurd (omega (arith, count-none 0 t (λ i k. absurd (omega arith))))
 count-found (suc n) t h =

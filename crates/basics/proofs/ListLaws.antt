@@ -109,6 +109,56 @@ module _ {A : Type 0} (test : ℕ → A → Bool) where
   pub passes-each : (d : A) (xs : List A) → ((i : ℕ) → i < length xs → test i (getD xs i d) ≡ true) → firstFailing test 0 xs ≡ length xs
   passes-each d xs h = none-fails 0 xs (pass-each d 0 xs (λ i k. rw (zero-add i) (h i k))) ∙ zero-add (length xs)
 
+  -- Where one fails, the first that does: the test fails there, and passes before.
+  record FailsFirst (d : A) (place : ℕ) (xs : List A) : Type 0 where
+    index : ℕ
+    is-place : firstFailing test place xs ≡ place + index
+    within : index < length xs
+    fails : test (place + index) (getD xs index d) ≡ false
+    passes-before : (j : ℕ) → j < index → test (place + j) (getD xs j d) ≡ true
+
+  fails-first : (d : A) (place : ℕ) (xs : List A) → firstFailing test place xs < place + length xs → FailsFirst d place xs
+  fails-first d place [] h = absurd (omega (arith, nothing-fails place))
+  fails-first d place (x ∷ xs) h =
+      by-test (test place x)
+      (λ e.
+      let later = fails-first d (suc place) xs (omega (arith, first-passed place x xs e)) in
+      record {
+        index = suc (later .index);
+        is-place = first-passed place x xs e ∙ later .is-place ∙ next (later .index);
+        within = omega (arith, later .within);
+        fails = rw (← next (later .index)) (later .fails);
+        passes-before = earlier e (later .index) (later .passes-before);
+      })
+      (λ e.
+      record {
+        index = 0;
+        is-place = first-failed place x xs e ∙ sym (add-zero place);
+        within = omega arith;
+        fails = rw (add-zero place) e;
+        passes-before = λ j k. absurd (omega arith);
+      })
+    where
+      next : (i : ℕ) → suc place + i ≡ place + suc i
+      next i = suc-add place i ∙ sym (add-suc place i)
+
+      earlier : test place x ≡ true → (n : ℕ) → ((j : ℕ) → j < n → test (suc place + j) (getD xs j d) ≡ true)
+          → (j : ℕ) → j < suc n → test (place + j) (getD (x ∷ xs) j d) ≡ true
+      earlier e n before zero k = rw (add-zero place) e
+      earlier e n before (suc j) k = rw (← next j) (before j (omega arith))
+
+  module _ (d : A) (xs : List A) where
+    pub fails-at : firstFailing test 0 xs < length xs → test (firstFailing test 0 xs) (getD xs (firstFailing test 0 xs) d) ≡ false
+    fails-at h =
+        let first = fails-first d 0 xs (omega arith) in
+        let at : firstFailing test 0 xs ≡ first .index = first .is-place ∙ zero-add (first .index) in
+        rw at (rw (zero-add (first .index)) at (first .fails))
+
+    pub passes-before-first : firstFailing test 0 xs < length xs → (i : ℕ) → i < firstFailing test 0 xs → test i (getD xs i d) ≡ true
+    passes-before-first h i k =
+        let first = fails-first d 0 xs (omega arith) in
+        rw (zero-add i) at (first .passes-before i (omega (arith, first .is-place)))
+
   -- Two lists one after the other: the first failing place is that of the first list, or else that of the second.
   pub firstFailing-append : (place end : ℕ) (xs ys : List A) → place + length xs ≡ end → AllPass place xs
       → firstFailing test place (xs ++ ys) ≡ firstFailing test end ys

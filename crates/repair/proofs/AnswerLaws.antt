@@ -163,7 +163,7 @@ module _ (frame : List ℕ) (limit budget : ℕ) where
       (λ within near two e. absurd (refused-not-word _ n e))
       (λ within near one e. (within, rw (word-same _ n e) at (nearestOf-is near one)))
 
-  of-word : (n : Nearest) → (live ≤ budget) × IsNearest frame limit n → searched frame limit budget ≡ Repaired.Word n
+  pub of-word : (n : Nearest) → (live ≤ budget) × IsNearest frame limit n → searched frame limit budget ≡ Repaired.Word n
   of-word n given =
       let is = given .1 in
       let few = fewest-only received (n .word) (is .only-nearest) in
@@ -182,7 +182,7 @@ module _ (frame : List ℕ) (limit budget : ℕ) where
       (λ within near two e. absurd (omega arith))
       (λ within near one e. absurd (omega arith))
 
-  of-none : (live ≤ budget) × NoneWithin received limit → searched frame limit budget ≡ Repaired.Refused (refusal noneWithinLimit 0)
+  pub of-none : (live ≤ budget) × NoneWithin received limit → searched frame limit budget ≡ Repaired.Refused (refusal noneWithinLimit 0)
   of-none given =
       let found = fewest-reached received in
       searched-none (given .0) (omega (arith, given .1 (found .0) (found .1 .0), found .1 .1))
@@ -210,7 +210,7 @@ module _ (frame : List ℕ) (limit budget : ℕ) where
             within-limit = omega (arith, fewest-is received (words .0) (words .1 .1 .1 .0));
           }
 
-  of-shared : (live ≤ budget) × Shared received limit → searched frame limit budget ≡ Repaired.Refused (refusal sharedFewest 0)
+  pub of-shared : (live ≤ budget) × Shared received limit → searched frame limit budget ≡ Repaired.Refused (refusal sharedFewest 0)
   of-shared given =
       let words = given .1 in
       searched-shared (given .0) (omega (arith, fewest-is received (words .one) (words .one-fewest), words .within-limit))

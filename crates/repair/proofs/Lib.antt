@@ -1,6 +1,7 @@
 -- `AnswerLaws`: the answer is what demand 3 asks for. `FlipLaws`: flipped data bits, and that two at most are repaired. `BestLaws`: the
--- nearest word so far. `Walk`: the moves of the search.
+-- nearest word so far. `Walk`: the moves of the search. `FoundLaws`: the answer that a search gives.
 pub mod AnswerLaws
 pub mod FlipLaws
 pub mod BestLaws
 pub mod Walk
+pub mod FoundLaws

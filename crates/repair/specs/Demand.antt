@@ -1,12 +1,13 @@
 -- Demand 3 of an answer: when it is "out of budget", when it is a word and which, and that two flipped data bits at most are repaired.
 use mathlib.Core.Path.{_≡_}
-use mathlib.Core.Logic.{_↔_}
+use mathlib.Core.Logic.{_↔_, _⊎_}
 use Prim.Native.Nat.{ℕ, _^_, _≤_, _<_}
 use mathlib.Core.Bool.{not}
 use mathlib.Core.List.{List}
 use lib.Dec.{eqb}
+use lib.ListN.{length, getD}
 use Rattle.basics.specs.Below.{countBelow}
-use Rattle.refusal.specs.Refusals.{refusal, overBudget, noneWithinLimit, sharedFewest}
+use Rattle.refusal.specs.Refusals.{refusal, wrongLength, symbolTooLarge, badBound, overBudget, noneWithinLimit, sharedFewest}
 use Rattle.frame.specs.Symbols.{frameOf, RightSymbols, dataAt, receivedBits}
 use Rattle.distance.specs.Prefixes.{wordDisagreements, liveCount}
 use Rattle.distance.specs.Nearest.{AtMostAll, OnlyNearest}
@@ -19,6 +20,26 @@ pub record Bounds (limit budget : ℕ) : Type 0 where
   pub limit-to-12 : limit ≤ 12
   pub budget-from-1 : 1 ≤ budget
   pub budget-to-65536 : budget ≤ 65_536
+
+-- ---- What is refused before a search
+
+-- The first symbol above 3 stands at the place.
+pub record FirstLarge (frame : List ℕ) (place : ℕ) : Type 0 where
+  pub within : place < length frame
+  pub large : 3 < getD frame place 0
+  pub none-before : (earlier : ℕ) → earlier < place → getD frame earlier 0 ≤ 3
+
+-- 01's table for 1, 15 and 7, in that order: each is given exactly when it applies and none before it does.
+pub record AsChecked (frame : List ℕ) (limit budget : ℕ) (answer : Repaired) : Type 0 where
+  -- "a lent buffer hasn't its exact length (.. frame 162)"
+  pub wrong-length : (answer ≡ Repaired.Refused (refusal wrongLength 0)) ↔ (length frame ≡ 162 → ⊥)
+  -- "limit above 12, or budget 0 or above 65,536", place 0 or 1
+  pub bad-limit : (answer ≡ Repaired.Refused (refusal badBound 0)) ↔ ((length frame ≡ 162) × (12 < limit))
+  pub bad-budget : (answer ≡ Repaired.Refused (refusal badBound 1))
+      ↔ ((length frame ≡ 162) × ((limit ≤ 12) × ((budget ≡ 0) ⊎ (65_536 < budget))))
+  -- "a symbol is above 3": the first such
+  pub large-symbol : (place : ℕ) → (answer ≡ Repaired.Refused (refusal symbolTooLarge place))
+      ↔ ((length frame ≡ 162) × (Bounds limit budget × FirstLarge frame place))
 
 -- ---- What is answered
 

@@ -3,11 +3,14 @@ use mathlib.Core.Path.{_≡_}
 use Prim.Native.Nat.{ℕ, _+_, _^_, _≤_, _<_}
 use mathlib.Core.Bool.{cond}
 use mathlib.Core.List.{List}
-use lib.Dec.{ltb}
+use lib.Dec.{leb, ltb}
 use lib.ListN.{length, getD}
+use Rattle.refusal.specs.Refusals.{refusal, overBudget, noneWithinLimit, sharedFewest}
 use Rattle.distance.specs.Prefixes.{wordDisagreements, liveCount}
 use Rattle.repair.specs.declared.best.Best.{Best}
 use Rattle.repair.specs.declared.search.Found.{Found}
+use Rattle.repair.specs.declared.Nearest.{Nearest}
+use Rattle.repair.specs.declared.Repaired.{Repaired}
 
 -- ---- The nearest word so far
 
@@ -44,3 +47,12 @@ pub record Searched (received : List ℕ) (limit budget : ℕ) (found : Found) :
   pub over-budget : budget < found .live → budget < liveCount received limit
   pub counted : found .live ≤ budget → found .live ≡ liveCount received limit
   pub best-of-all : found .live ≤ budget → BestBelow received limit (2 ^ 50) (found .best)
+
+-- The answer that it gives, with the number of wrong sync bits.
+unfoldable pub answerOf : Found → ℕ → ℕ → ℕ → Repaired
+answerOf found wrong limit budget =
+    let best = found .best in
+    cond (ltb budget (found .live)) (Repaired.Refused (refusal overBudget 0))
+    (cond (ltb limit (best .fewest)) (Repaired.Refused (refusal noneWithinLimit 0))
+    (cond (leb (best .next) (best .fewest)) (Repaired.Refused (refusal sharedFewest 0))
+    (Repaired.Word (record { word = best .word; disagreements = best .fewest; live = found .live; «sync_wrong» = wrong }))))

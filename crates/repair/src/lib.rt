@@ -1,11 +1,23 @@
-// Repair: the word that is nearest to received symbols. This crate has the answer, its definition and what is proved of that; the search
-// that finds it is still to come.
+// Repair (nearest-codeword decoding): the one word that is nearest to received symbols, found by a
+// bounded search.
 mod best;
 mod cost;
 mod prefix;
 mod search;
+mod sync;
 
+ghost use mathlib.Core.Path.{_≡_};
+ghost use Rattle.repair.specs.Answer.{firstBadBound, repaired};
+ghost use Rattle.repair.specs.Demand.{AsChecked, AsDemanded, TwoFlipsRepaired};
+ghost use Rattle.repair.specs.Search.{answerOf};
+use refusal::BAD_BOUND;
+use refusal::NONE_WITHIN_LIMIT;
+use refusal::OVER_BUDGET;
 use refusal::Refusal;
+use refusal::SHARED_FEWEST;
+use refusal::SYMBOL_TOO_LARGE;
+use refusal::WRONG_LENGTH;
+use search::Found;
 
 // The nearest word, its disagreements, the live count, and how many of the 162 sync bits are wrong.
 pub struct Nearest {
@@ -19,4 +31,81 @@ pub struct Nearest {
 pub enum Repaired {
     Word(Nearest),
     Refused(Refusal),
+}
+
+// 0 where the limit is past its end, 1 where the budget is out of its range, and 2 where neither is so.
+fn first_bad_bound(limit: u32, budget: u32) -> u32
+    ensures { λ r. ⌜ r ≡ firstBadBound limit budget ⌝ }
+{
+    if 12 < limit {
+        return 0;
+    }
+    if budget < 1 {
+        return 1;
+    }
+    if 65_536 < budget { 1 } else { 2 }
+}
+
+// The answer that a search gives.
+fn answer(found: Found, sync_wrong: u32, limit: u32, budget: u32) -> Repaired
+    ensures { λ r. ⌜ r ≡ answerOf found «sync_wrong» limit budget ⌝ }
+{
+    if budget < found.live {
+        return Repaired::Refused(Refusal {
+            number: OVER_BUDGET,
+            place: 0,
+        });
+    }
+    let best = found.best;
+    if limit < best.fewest {
+        return Repaired::Refused(Refusal {
+            number: NONE_WITHIN_LIMIT,
+            place: 0,
+        });
+    }
+    if best.next <= best.fewest {
+        return Repaired::Refused(Refusal {
+            number: SHARED_FEWEST,
+            place: 0,
+        });
+    }
+    Repaired::Word(Nearest {
+        word: best.word,
+        disagreements: best.fewest,
+        live: found.live,
+        sync_wrong,
+    })
+}
+
+// The word that is nearest to the symbols of a frame, where one alone is and it is within the limit,
+// and the live count is within the budget.
+pub fn repair(frame: &[u8], limit: u32, budget: u32) -> Repaired
+    ensures answer { λ r. ⌜ r ≡ repaired (now (frame .entry)) limit budget ⌝ }
+    ensures checked { λ r. ⌜ AsChecked (now (frame .entry)) limit budget r ⌝ }
+    ensures demanded { λ r. ⌜ AsDemanded (now (frame .entry)) limit budget r ⌝ }
+    ensures two_flips { λ r. ⌜ TwoFlipsRepaired (now (frame .entry)) limit budget r ⌝ }
+{
+    if frame.len() != 162 {
+        return Repaired::Refused(Refusal {
+            number: WRONG_LENGTH,
+            place: 0,
+        });
+    }
+    let bad = first_bad_bound(limit, budget);
+    if bad < 2 {
+        return Repaired::Refused(Refusal {
+            number: BAD_BOUND,
+            place: bad,
+        });
+    }
+    let large = frame::symbols::first_large(frame);
+    if large < 162 {
+        return Repaired::Refused(Refusal {
+            number: SYMBOL_TOO_LARGE,
+            place: large as u32,
+        });
+    }
+    let received = frame::symbols::received_bits(frame);
+    let found = search::search(&received, limit, budget);
+    answer(found, sync::wrong_sync(frame), limit, budget)
 }
