@@ -1,5 +1,8 @@
 // Repair: the word that is nearest to received symbols. This crate has the answer, its definition and what is proved of that; the search
 // that finds it is still to come.
+mod cost;
+mod prefix;
+
 use refusal::Refusal;
 
 // The nearest word, its disagreements, the live count, and how many of the 162 sync bits are wrong.
