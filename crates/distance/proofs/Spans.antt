@@ -3,14 +3,13 @@
 use mathlib.Core.Path.{_≡_, refl, sym, ap, _∙_}
 use Prim.Native.Nat.{ℕ, _+_, _-_, _*_, _/_, _%_, _^_, _≤_, _<_, min, suc}
 use native.Mathlib.Nat.{pow-suc, add-mul, mul-assoc, mul-comm, zero-mul, one-mul, div-one, mul-div-cancel, mul-div-mul-right, div-lt-iff-lt-mul, mul-le-mul-right, mul-lt-mul-of-pos-right}
-use native.Mathlib.Numerals.{add-one}
 use native.Mathlib.Omega.{arith}
 use lib.Arith.{digits-div}
 use lib.Pow.{pow-add, pow-mono, pow-pos, shr-shr, shr-mono}
-use borrow.Author.Tests.{lt-ltb, le-ltb}
 use Rattle.basics.proofs.Choice.{below-or-not}
 use Rattle.distance.specs.Prefixes.{freeOf, prefixesOf}
 use Rattle.distance.specs.Steps.{branchesOf, childOf, parentOf, lastBranch}
+use Rattle.distance.proofs.StepLaws.{branches-first, branches-later, child-first, child-later, parent-first, parent-later, last-first, last-later}
 
 -- How many words begin with a prefix of k bits.
 unfoldable pub span : ℕ → ℕ
@@ -64,33 +63,21 @@ first-of-span k number = mul-div-cancel number (span-positive k)
 -- ---- Branches
 
 module _ (k : ℕ) where
-  pub branches-free : k < 50 → branchesOf k ≡ 2
-  unfolding branchesOf
-  branches-free h = rw (lt-ltb k 50 h)
-
-  pub branches-tail : 50 ≤ k → branchesOf k ≡ 1
-  unfolding branchesOf
-  branches-tail h = rw (le-ltb k 50 h)
-
   pub branches-span : branchesOf k * span (k + 1) ≡ span k
   branches-span =
       below-or-not k 50
-      (λ h. rw (branches-free h) (sym (span-half k h)))
-      (λ h. rw (branches-tail h, span-tail k h, span-tail (k + 1) (omega arith)))
-
-  pub branches-most : branchesOf k ≤ 2
-  branches-most = below-or-not k 50 (λ h. omega (arith, branches-free h)) (λ h. omega (arith, branches-tail h))
+      (λ first. rw (branches-first k first) (sym (span-half k first)))
+      (λ later. rw (branches-later k later, span-tail k later, span-tail (k + 1) (omega arith)))
 
   module _ (number : ℕ) where
     -- The words with a branch follow those with the branches before it.
     pub child-span : (branch : ℕ) → branch < branchesOf k → childOf k number branch * span (k + 1) ≡ number * span k + branch * span (k + 1)
-    unfolding childOf
     child-span branch h =
         below-or-not k 50
-        (λ free. rw (lt-ltb k 50 free, span-half k free) (twice number branch (span (k + 1))))
-        (λ tail.
-        let none : branch ≡ 0 = omega (arith, branches-tail tail) in
-        rw (le-ltb k 50 tail, span-tail k tail, span-tail (k + 1) (omega arith), none) (omega arith))
+        (λ first. rw (child-first k first number branch, span-half k first) (twice number branch (span (k + 1))))
+        (λ later.
+        let none : branch ≡ 0 = omega (arith, branches-later k later) in
+        rw (child-later k later number branch, span-tail k later, span-tail (k + 1) (omega arith), none) (omega arith))
       where
         twice : (n b s : ℕ) → (2 * n + b) * s ≡ n * (2 * s) + b * s
         twice n b s = rw (add-mul (2 * n) b s, mul-assoc 2 n s, mul-comm n (2 * s), mul-assoc 2 s n, mul-comm s n)
@@ -123,40 +110,24 @@ module _ (k : ℕ) where
 
     -- Those with the next branch, back from a prefix of one bit more, follow its own.
     pub parent-span : parentOf k number * span k + (lastBranch k number + 1) * span (k + 1) ≡ number * span (k + 1) + span (k + 1)
-    unfolding parentOf lastBranch
     parent-span =
         below-or-not k 50
-        (λ free.
+        (λ first.
         let halves : 2 * (number / 2) + number % 2 ≡ number = omega arith in
-        rw (lt-ltb k 50 free, span-half k free) (twice (number / 2) (number % 2) number (span (k + 1)) halves))
-        (λ tail. rw (le-ltb k 50 tail, span-tail k tail, span-tail (k + 1) (omega arith)) (omega arith))
+        rw (parent-first k first number, last-first k first number, span-half k first)
+        (twice (number / 2) (number % 2) number (span (k + 1)) halves))
+        (λ later. rw (parent-later k later number, last-later k later number, span-tail k later, span-tail (k + 1) (omega arith)) (omega arith))
       where
         twice : (n b m s : ℕ) → 2 * n + b ≡ m → n * (2 * s) + (b + 1) * s ≡ m * s + s
         twice n b m s e =
             rw (← e, add-mul b 1 s, one-mul s, add-mul (2 * n) b s, mul-assoc 2 n s, mul-comm n (2 * s), mul-assoc 2 s n, mul-comm s n) (omega arith)
 
     -- A prefix of one bit more begins with the one it is longer than.
-    pub parent-first : number * span (k + 1) / span k ≡ parentOf k number
-    unfolding parentOf
-    parent-first =
+    pub parent-begins : number * span (k + 1) / span k ≡ parentOf k number
+    parent-begins =
         below-or-not k 50
-        (λ free. rw (lt-ltb k 50 free, span-half k free) (mul-div-mul-right number 2 (span-positive (k + 1))))
-        (λ tail. rw (le-ltb k 50 tail, span-tail k tail, span-tail (k + 1) (omega arith)) (div-one (number * 1) ∙ omega arith))
-
-    pub lastBranch-below : lastBranch k number < branchesOf k
-    unfolding lastBranch
-    lastBranch-below =
-        below-or-not k 50
-        (λ free. rw (lt-ltb k 50 free, branches-free free) (omega arith))
-        (λ tail. rw (le-ltb k 50 tail, branches-tail tail) (omega arith))
-
-    -- Longer by the last branch, what it is longer than is the prefix again.
-    pub child-parent : childOf k (parentOf k number) (lastBranch k number) ≡ number
-    unfolding childOf parentOf lastBranch
-    child-parent =
-        below-or-not k 50
-        (λ free. rw (lt-ltb k 50 free) (omega arith))
-        (λ tail. rw (le-ltb k 50 tail))
+        (λ first. rw (parent-first k first number, span-half k first) (mul-div-mul-right number 2 (span-positive (k + 1))))
+        (λ later. rw (parent-later k later number, span-tail k later, span-tail (k + 1) (omega arith)) (div-one (number * 1) ∙ omega arith))
 
 -- ---- All words
 

@@ -1,14 +1,14 @@
 -- Laws of steps: a prefix that is one bit longer, its register, and what the bit adds to the disagreements.
 use mathlib.Core.Path.{_≡_, refl, sym, ap, ap₂, _∙_}
 use Prim.Native.Nat.{ℕ, zero, suc, _+_, _-_, _*_, _/_, _%_, _^_, _≤_, _<_}
-use native.Mathlib.Nat.{add-zero, mul-assoc, mul-comm, pow-suc}
+use native.Mathlib.Nat.{add-zero, mul-assoc, mod-mod, mul-comm, pow-suc, sub-self}
 use native.Mathlib.Numerals.{add-one}
 use native.Mathlib.Omega.{arith}
 use mathlib.Core.List.{List, [], _∷_, _++_, append-assoc}
 use lib.Dec.{eqb}
-use lib.ListN.{length, take, drop, replicate, length-drop, take-append-drop, replicate-append-replicate}
+use lib.ListN.{length, getD, take, drop, replicate, length-drop, take-append-drop, replicate-append-replicate}
 use lib.Pow.{shr-shr}
-use lib.Seq.{take-take}
+use lib.Seq.{drop-cons, take-take}
 use borrow.Author.Tests.{lt-ltb, le-ltb}
 use Rattle.basics.proofs.Choice.{cond-both, below-or-not}
 use Rattle.radix.specs.Numeral.{digitsOf, numberFrom, numberOf}
@@ -165,17 +165,40 @@ register-prefix k number h =
     ∙ rw (length-bitsOf free number, numberOf-digitsOf radices {n = number} (positive-bits free) (rw (count-bits free) h)) in
     rw (register-append 0 (bitsOf free number) (replicate (k - free) 0), first) (register-zeros number (k - free))
 
+-- As code has it: the lowest 32 bits, shifted by the zeros.
+pub register-first : (k : ℕ) → k < 50 → (number : ℕ) → registerOf k number ≡ number % 2 ^ 32
+unfolding registerOf
+register-first k h number = rw (free-first k (omega arith), sub-self k) (omega arith)
+
+-- Both sides are the register after those zeros.
+pub register-later : (k : ℕ) → 50 ≤ k → (number : ℕ) → registerOf k number ≡ number % 2 ^ 32 * 2 ^ (k - 50) % 2 ^ 32
+unfolding registerOf
+register-later k h number =
+    let zeros : List ℕ = replicate (k - 50) 0 in
+    rw (free-later k h)
+    (sym (register-zeros number (k - 50))
+    ∙ ap (λ (r : ℕ). registerAfter r zeros) (sym (mod-mod number (2 ^ 32)))
+    ∙ register-zeros (number % 2 ^ 32) (k - 50))
+
 -- ---- Costs
 
-step-most : (received : List ℕ) (register : ℕ) → stepCost received register ≤ 2
+-- The two coded bits against the received bits at a place and the next.
+pub stepCost-at : (received : List ℕ) (place register : ℕ) → place + 1 < length received
+    → stepCost (drop place received) register
+    ≡ unlike (parity firstMask register) (getD received place 0) + unlike (parity secondMask register) (getD received (place + 1) 0)
 unfolding stepCost differences
-step-most [] register = omega arith
-step-most (x ∷ []) register = omega (arith, unlike-most (parity firstMask register) x)
-step-most (x ∷ y ∷ received) register = omega (arith, unlike-most (parity firstMask register) x, unlike-most (parity secondMask register) y)
+stepCost-at received place register h =
+    rw (drop-cons received place 0 (omega arith), drop-cons received (suc place) 0 (omega arith), add-one place) (omega arith)
+
+pub stepCost-most : (received : List ℕ) (register : ℕ) → stepCost received register ≤ 2
+unfolding stepCost differences
+stepCost-most [] register = omega arith
+stepCost-most (x ∷ []) register = omega (arith, unlike-most (parity firstMask register) x)
+stepCost-most (x ∷ y ∷ received) register = omega (arith, unlike-most (parity firstMask register) x, unlike-most (parity secondMask register) y)
 
 pub zeroCost-most : (received : List ℕ) (k number : ℕ) → zeroCost received k number ≤ 2
 unfolding zeroCost
-zeroCost-most received k number = step-most (drop (2 * k) received) (clocked (registerOf k number) 0)
+zeroCost-most received k number = stepCost-most (drop (2 * k) received) (clocked (registerOf k number) 0)
 
 -- A received bit is unlike the coded bit of a 0 or that of a 1.
 coded-others : (mask register x : ℕ) → mask % 2 ≡ 1 → x < 2

@@ -11,9 +11,9 @@ use Rattle.basics.proofs.Choice.{equal-or-not}
 use Rattle.distance.specs.Prefixes.{prefixBits, prefixesOf, disagreements, wordDisagreements, liveCount}
 use Rattle.distance.specs.Steps.{branchesOf, childOf, parentOf, lastBranch, zeroCost, branchCost}
 use Rattle.distance.proofs.Bits.{AllBits, bits-each}
-use Rattle.distance.proofs.Spans.{span, span-positive, span-tail, span-within, span-root, prefixes-root, prefixes-positive, prefixes-all, share-fewer, within-span, first-of-span, prefix-below, branches-tail, branches-free, child-span, nextWord, next-none, next-more, next-all, next-prefix, next-child, next-below, parent-span, parent-first, lastBranch-below, child-parent}
+use Rattle.distance.proofs.Spans.{span, span-positive, span-tail, span-within, span-root, prefixes-root, prefixes-positive, prefixes-all, share-fewer, within-span, first-of-span, prefix-below, child-span, nextWord, next-none, next-more, next-all, next-prefix, next-child, next-below, parent-span, parent-begins}
 use Rattle.distance.proofs.Passed.{passedLive, live-enter, live-whole, live-leave, words-dead, live-pass, live-starts, live-ends, live-most}
-use Rattle.distance.proofs.StepLaws.{prefix-empty, zeroCost-most, disagreements-branch}
+use Rattle.distance.proofs.StepLaws.{branches-later, child-below, parent-below, last-below, child-parent, prefix-empty, zeroCost-most, disagreements-branch}
 use Rattle.repair.specs.Search.{noneFound, nearerOf, BestBelow, Received, Searched}
 use Rattle.repair.specs.declared.best.Best.{Best}
 use Rattle.repair.specs.declared.search.Found.{Found}
@@ -125,7 +125,7 @@ module _ {received : List ℕ} {limit budget : ℕ} where
             long = w .long;
             are-bits = w .are-bits;
             depth-most = omega arith;
-            number-below = rw (← next-child depth number branch h) (prefix-below (depth + 1) next next-in);
+            number-below = child-below depth number branch (w .number-below) h;
             branch-most = omega arith;
             distance-is = e ∙ branch-distance;
             near = near;
@@ -149,7 +149,7 @@ module _ {received : List ℕ} {limit budget : ℕ} where
           → 80 ≤ depth → Walking received limit budget costs (nearerOf best number longer) (live + 1) depth number distance (branch + 1)
       walk-word longer e near within last =
           let at-80 : depth ≡ 80 = omega (arith, w .depth-most) in
-          let zero-branch : branch ≡ 0 = omega (arith, branches-tail depth (omega arith)) in
+          let zero-branch : branch ≡ 0 = omega (arith, branches-later depth (omega arith)) in
           let one-more : nextWord depth number (branch + 1) ≡ next + 1 =
           next-more depth number branch ∙ ap (λ (n : ℕ). next + n) (span-tail (depth + 1) (omega arith)) in
           let word : next ≡ number = rw (zero-branch, next-none depth number, span-tail depth (omega arith)) (omega arith) in
@@ -223,22 +223,22 @@ module _ {received : List ℕ} {limit budget : ℕ} where
 
       -- The words with the prefix begin with the one that it is longer than, and all of them are passed.
       begins : first / span d ≡ parent
-      begins = rw e (parent-first d number)
+      begins = rw e (parent-begins d number)
 
       all-passed : next ≡ first + span depth
       all-passed =
           let at-end : branch ≡ branchesOf depth = omega (arith, w .branch-most) in
           rw at-end (next-all depth number)
 
-      parent-below : parent < prefixesOf d
-      parent-below = rw (← begins) (prefix-below d first (omega (arith, span-within depth number (w .number-below), span-positive depth)))
+      parent-in : parent < prefixesOf d
+      parent-in = parent-below d number (rw e at (w .number-below))
 
       up-cost : getD costs d 0 ≡ zeroCost received d parent
       up-cost = w .costs-are d (omega arith) ∙ ap (zeroCost received d) begins
 
       pub up-distance : distance ≡ disagreements received (prefixBits d parent) + branchCost (getD costs d 0) last
       up-distance =
-          let step = disagreements-branch received d parent last (w .long) (w .are-bits) (omega (arith, w .depth-most)) parent-below (lastBranch-below d number) in
+          let step = disagreements-branch received d parent last (w .long) (w .are-bits) (omega (arith, w .depth-most)) parent-in (last-below d number) in
           rw up-cost
           (w .distance-is ∙ ap₂ (λ (k n : ℕ). disagreements received (prefixBits k n)) e (sym (child-parent d number)) ∙ step)
 
@@ -248,13 +248,13 @@ module _ {received : List ℕ} {limit budget : ℕ} where
       pub walk-up : Walking received limit budget costs best live d parent (distance - branchCost (getD costs d 0) last) (last + 1)
       walk-up =
           let next-same : nextWord d parent (last + 1) ≡ next = parent-span d number ∙ sym (all-passed ∙ ap (λ (k : ℕ). number * span k + span k) e) in
-          let with-parent : number * span (d + 1) / span d ≡ parent * span d / span d = parent-first d number ∙ sym (first-of-span d parent) in
+          let with-parent : number * span (d + 1) / span d ≡ parent * span d / span d = parent-begins d number ∙ sym (first-of-span d parent) in
           record {
             long = w .long;
             are-bits = w .are-bits;
             depth-most = omega (arith, w .depth-most);
-            number-below = parent-below;
-            branch-most = omega (arith, lastBranch-below d number);
+            number-below = parent-in;
+            branch-most = omega (arith, last-below d number);
             distance-is = omega (arith, up-distance);
             near = omega (arith, w .near);
             live-is =

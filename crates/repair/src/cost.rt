@@ -1,9 +1,9 @@
 // The disagreements that a step adds.
 ghost use mathlib.Core.Path.{_≡_};
-ghost use Prim.Native.Nat.{_+_, _*_, _≤_, _<_};
-ghost use lib.ListN.{drop, replicate, set};
-ghost use lib.Dec.{eqb};
+ghost use Prim.Native.Nat.{_*_, _≤_, _<_};
 ghost use mathlib.Core.Bool.{cond};
+ghost use lib.Dec.{eqb};
+ghost use lib.ListN.{length, drop, replicate, set};
 ghost use Rattle.distance.specs.Steps.{stepCost, zeroCost, branchCost};
 use super::prefix;
 
@@ -16,6 +16,7 @@ fn unlike(x: u8, y: u8) -> u32
 
 // The disagreements of the two coded bits that a register gives after `depth` bits and one more.
 fn step_cost(received: &[u8; 162], depth: usize, register: u32) -> u32
+    requires { ⌜ length (now received) ≡ 162 ⌝ }
     requires { ⌜ depth < 81 ⌝ }
     ensures { λ r. ⌜ r ≡ stepCost (drop (2 * depth) (now (received .entry))) register ⌝ }
 {
@@ -25,6 +26,7 @@ fn step_cost(received: &[u8; 162], depth: usize, register: u32) -> u32
 
 // What a 0 after a prefix adds to its disagreements.
 pub(crate) fn zero_cost(received: &[u8; 162], depth: usize, number: u64) -> u32
+    requires { ⌜ length (now received) ≡ 162 ⌝ }
     requires { ⌜ depth < 81 ⌝ }
     ensures { λ r. ⌜ r ≡ zeroCost (now (received .entry)) depth number ⌝ }
 {
@@ -37,6 +39,7 @@ pub(crate) fn zero_cost(received: &[u8; 162], depth: usize, number: u64) -> u32
 
 // What a 0 after each prefix on the way costs, at the start of a search: the way has the empty prefix alone.
 pub(crate) fn root_costs(received: &[u8; 162]) -> [u32; 81]
+    requires { ⌜ length (now received) ≡ 162 ⌝ }
     ensures { λ r. ⌜ r ≡ set (replicate 81 0) 0 (zeroCost (now (received .entry)) 0 0) ⌝ }
 {
     let mut costs = [0u32; 81];

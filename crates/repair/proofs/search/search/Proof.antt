@@ -5,8 +5,7 @@ use native.Mathlib.Omega.{arith}
 use lib.ListN.{getD, replicate, length-replicate}
 use borrow.Author.Needs.{needs}
 use Rattle.distance.specs.Steps.{branchesOf, zeroCost, branchCost}
-use Rattle.distance.proofs.StepLaws.{branchCost-most}
-use Rattle.distance.proofs.Spans.{branches-most, lastBranch-below}
+use Rattle.distance.proofs.StepLaws.{branches-most, last-below, branchCost-most}
 use Rattle.repair.proofs.Walk.{Walking, walk-starts, walk-over, walk-down, walk-word, walk-past, walk-up, walk-ends, cost-most, number-in, up-most, up-distance}
 use Rattle.repair.proofs.search.search.Statement.{statement}
 use Rattle.repair.proofs.search.search.Tie as tie
@@ -211,7 +210,7 @@ longer-than-none c = omega (arith, c .before .if5 .left)
 last-taken : (c : tie.After-last-branch Inv-loop μ-loop Inv-depths μ-depths) → c .last-branch .result < 2
 last-taken c =
     let l = c .before .before .before .before in
-    omega (arith, c .last-branch .ensures, lastBranch-below (l .loop .depth - 1) (l .loop .number), branches-most (l .loop .depth - 1))
+    omega (arith, c .last-branch .ensures, last-below (l .loop .depth - 1) (l .loop .number), branches-most (l .loop .depth - 1))
 
 branch-cost-requires-2 : tie.Need-branch-cost-requires-2 Inv-loop μ-loop Inv-depths μ-depths
 branch-cost-requires-2 c κs =
