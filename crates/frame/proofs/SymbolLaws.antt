@@ -109,15 +109,19 @@ frame-by-data word frame form e =
 -- ---- The right form, by the first place that hasn't it
 
 module _ (frame : List ℕ) where
+  pub symbols-of-test : length frame ≡ 162 → 162 ≤ firstLarge frame → RightSymbols frame
+  unfolding firstLarge
+  symbols-of-test e large =
+      record {
+        right-length = e;
+        symbols-to-3 = λ place h. leb-true _ _ (passes-at small 0 frame (rw e large) place (omega arith));
+      }
+
   pub form-of-tests : length frame ≡ 162 → 162 ≤ firstLarge frame → 162 ≤ firstWrongSync frame → RightForm frame
-  unfolding firstLarge firstWrongSync
+  unfolding firstWrongSync
   form-of-tests e large wrong =
       record {
-        right-symbols =
-            record {
-              right-length = e;
-              symbols-to-3 = λ place h. leb-true _ _ (passes-at small 0 frame (rw e large) place (omega arith));
-            };
+        right-symbols = symbols-of-test e large;
         right-sync =
             λ place h. eqb-true _ _ (passes-at synced 0 frame (rw e wrong) place (omega arith));
       }

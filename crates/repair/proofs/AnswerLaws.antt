@@ -1,6 +1,6 @@
 -- Repair's answer is what demand 3 asks for; and what its bounds and its count of wrong sync bits mean.
 use mathlib.Core.Path.{_≡_, refl, ap, _∙_}
-use mathlib.Core.Logic.{_↔_}
+use mathlib.Core.Logic.{_↔_, _⊎_, inl, inr}
 use Prim.Native.Nat.{ℕ, _%_, _≤_, _<_}
 use native.Mathlib.Omega.{arith}
 use mathlib.Core.Bool.{Bool, not}
@@ -122,6 +122,16 @@ module _ (frame : List ℕ) (limit budget : ℕ) where
       below-or-not 1 (sharing received)
       (λ two. rw (searched-shared within near two) (shared within near two))
       (λ one. rw (searched-word within near one) (word within near one))))
+
+  -- The number of its refusal, if it is one.
+  pub searched-number : (repairNumbers (searched frame limit budget) .number ≡ 0) ⊎ (16 ≤ repairNumbers (searched frame limit budget) .number)
+  unfolding repairNumbers
+  searched-number =
+      by-case (λ a. (repairNumbers a .number ≡ 0) ⊎ (16 ≤ repairNumbers a .number))
+      (λ over. inr (omega arith))
+      (λ within far. inr (omega arith))
+      (λ within near two. inr (omega arith))
+      (λ within near one. inl refl)
 
   -- ---- Out of budget
 

@@ -1,4 +1,4 @@
--- The answer that a search gives is the one defined, whatever the search went through.
+-- What is searched are bits, and the answer that a search gives is the one defined, whatever the search went through.
 use mathlib.Core.Path.{_≡_, refl, sym, ap, _∙_}
 use Prim.Native.Nat.{ℕ, _^_, _≤_, _<_}
 use native.Mathlib.Omega.{arith}
@@ -6,17 +6,30 @@ use mathlib.Core.List.{List}
 use borrow.Author.Tests.{lt-ltb, le-ltb, le-leb, lt-leb}
 use Rattle.basics.proofs.Choice.{below-or-not, equal-or-not}
 use Rattle.refusal.specs.Refusals.{refusal, overBudget, noneWithinLimit, sharedFewest}
-use Rattle.frame.specs.Symbols.{receivedBits}
+use Rattle.interleaver.specs.Places.{placeOf}
+use Rattle.interleaver.proofs.PlaceLaws.{placeOf-below}
+use Rattle.frame.specs.Symbols.{RightSymbols, receivedBits}
+use Rattle.frame.proofs.SymbolLaws.{length-receivedBits, getD-receivedBits}
 use Rattle.distance.specs.Prefixes.{wordDisagreements, liveCount}
 use Rattle.distance.specs.Nearest.{AtMostAll, OnlyNearest}
 use Rattle.repair.specs.Answer.{wrongSyncIn, searched}
 use Rattle.repair.specs.Demand.{IsNearest, Shared}
-use Rattle.repair.specs.Search.{BestBelow, Searched, answerOf}
+use Rattle.repair.specs.Search.{BestBelow, Received, Searched, answerOf}
 use Rattle.repair.specs.declared.best.Best.{Best}
 use Rattle.repair.specs.declared.search.Found.{Found}
 use Rattle.repair.specs.declared.Nearest.{Nearest}
 use Rattle.repair.specs.declared.Repaired.{Repaired}
 use Rattle.repair.proofs.AnswerLaws.{searched-over, of-word, of-none, of-shared}
+
+-- The data bits of symbols of 0 to 3 are bits.
+pub received-bits : (frame : List ℕ) → RightSymbols frame → Received (receivedBits frame)
+received-bits frame right =
+    record {
+      long = length-receivedBits frame;
+      are-bits =
+          λ index h.
+              omega (arith, getD-receivedBits frame index h, right .symbols-to-3 (placeOf index) (placeOf-below index h));
+    }
 
 -- ---- The cases of the answer
 

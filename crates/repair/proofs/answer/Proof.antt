@@ -1,3 +1,6 @@
+use native.Mathlib.Omega.{arith}
+use mathlib.Core.Path.{sym}
+use Rattle.repair.proofs.FoundLaws.{answer-over, answer-none, answer-shared, answer-word}
 use Rattle.repair.proofs.answer.Statement.{statement}
 use Rattle.repair.proofs.answer.Tie as tie
 use Rattle.repair.proofs.answer.Reads as reads
@@ -5,19 +8,27 @@ use Rattle.repair.proofs.answer.Lts as lts
 
 -- src/lib.rt:54:9
 returns : tie.Need-returns
-returns c = ?a
+returns c =
+    let a = c .before .before .args in
+    sym (answer-over (a .found) (a .sync-wrong) (a .limit) (a .budget) (c .if1 .taken))
 
 -- src/lib.rt:61:9
 returns-2 : tie.Need-returns-2
-returns-2 c = ?
+returns-2 c =
+    let a = c .before .before .before .before .before .args in
+    sym (answer-none (a .found) (a .sync-wrong) (a .limit) (a .budget) (omega arith) (c .if2 .taken))
 
 -- src/lib.rt:67:9
 returns-3 : tie.Need-returns-3
-returns-3 c = ?
+returns-3 c =
+    let a = c .before .before .before .before .before .before .before .args in
+    sym (answer-shared (a .found) (a .sync-wrong) (a .limit) (a .budget) (omega arith) (omega arith) (c .if3 .taken))
 
 -- src/lib.rt:50:1
 returns-4 : tie.Need-returns-4
-returns-4 c = ?
+returns-4 c =
+    let a = c .before .before .before .before .before .before .before .args in
+    sym (answer-word (a .found) (a .sync-wrong) (a .limit) (a .budget) (omega arith) (omega arith) (c .if3 .left))
 
 pub answer-spec : {M : Type 1} → statement M
 answer-spec = tie.close (tie.spec returns returns-2 returns-3 returns-4)

@@ -1,3 +1,9 @@
+use mathlib.Core.Path.{sym}
+use mathlib.Core.Logic.{inl, inr}
+use native.Mathlib.Omega.{arith}
+use mathlib.Core.List.{[]}
+use Rattle.repair.proofs.AnswerLaws.{no-bad-bound}
+use Rattle.repair.proofs.CheckLaws.{bad-limit-first, bad-budget-next}
 use Rattle.repair.proofs.first_bad_bound.Statement.{statement}
 use Rattle.repair.proofs.first_bad_bound.Tie as tie
 use Rattle.repair.proofs.first_bad_bound.Reads as reads
@@ -5,19 +11,26 @@ use Rattle.repair.proofs.first_bad_bound.Lts as lts
 
 -- src/lib.rt:41:9
 returns : tie.Need-returns
-returns c = ?
+returns c = sym (bad-limit-first (c .before .args .limit) (c .before .args .budget) (c .if1 .taken))
 
 -- src/lib.rt:44:9
 returns-2 : tie.Need-returns-2
-returns-2 c = ?
+returns-2 c =
+    let a = c .before .before .args in
+    sym (bad-budget-next (a .limit) (a .budget) (c .before .if1 .left) (inl (omega arith)))
 
 -- src/lib.rt:37:1
 returns-3 : tie.Need-returns-3
-returns-3 c = ?
+returns-3 c =
+    let a = c .before .before .before .args in
+    sym (bad-budget-next (a .limit) (a .budget) (c .before .before .if1 .left) (inr (c .if3 .taken)))
 
 -- src/lib.rt:37:1
 returns-4 : tie.Need-returns-4
-returns-4 c = ?
+returns-4 c =
+    let a = c .before .before .before .args in
+    sym (no-bad-bound [] (a .limit) (a .budget)
+    (record { limit-to-12 = c .before .before .if1 .left; budget-from-1 = c .before .if2 .left; budget-to-65536 = c .if3 .left }))
 
 pub first-bad-bound-spec : {M : Type 1} → statement M
 first-bad-bound-spec = tie.close (tie.spec returns returns-2 returns-3 returns-4)

@@ -8,7 +8,7 @@ use lib.ListN.{getD}
 use borrow.Author.Needs.{needs}
 use borrow.Author.Tests.{eq-eqb, ne-eqb}
 use Rattle.basics.specs.Below.{countBelow}
-use Rattle.basics.proofs.BelowLaws.{count-none, count-raised, count-kept, count-most}
+use Rattle.basics.proofs.BelowLaws.{count-none, count-raised, count-kept}
 use Rattle.frame.specs.Symbols.{syncAt}
 use Rattle.frame.specs.Answer.{synced}
 use Rattle.frame.proofs.SymbolLaws.{getD-sync}
@@ -23,10 +23,14 @@ abbrev unsynced : List ℕ → ℕ → Bool
 unsynced frame place = not (synced place (getD frame place 0))
 
 abbrev Inv-loop : tie.InvT-loop
-Inv-loop frame sync wrong₀ place₀ wrong place = (place ≤ 162) × (wrong ≡ countBelow place (unsynced frame))
+Inv-loop frame sync wrong₀ place₀ wrong place = (place ≤ 162) × ((wrong ≤ place) × (wrong ≡ countBelow place (unsynced frame)))
 
 abbrev μ-loop : tie.MeasureT-loop
 μ-loop frame sync wrong₀ place₀ wrong place = 162 - place
+
+-- What is read of the table is the place's sync bit.
+sync-read : (l : tie.At-loop Inv-loop μ-loop) → getD (l .before .sync-vector .result) (l .loop .place) 0 ≡ syncAt (l .loop .place)
+sync-read l = ap (λ (table : List ℕ). getD table (l .loop .place) 0) (l .before .sync-vector .ensures) ∙ getD-sync (l .loop .place)
 
 -- src/sync.rt:12:16
 sync-vector-requires : tie.Need-sync-vector-requires Inv-loop μ-loop
@@ -34,7 +38,7 @@ sync-vector-requires c κs = search needs
 
 -- src/sync.rt:15:5
 loop-holds : tie.Need-loop-holds Inv-loop μ-loop
-loop-holds c = (omega arith, sym (count-none 0 (unsynced (c .before .args .frame .now)) (λ i h. absurd (omega arith))))
+loop-holds c = (omega arith, (omega arith, sym (count-none 0 (unsynced (c .before .before .args .frame .now)) (λ i h. absurd (omega arith)))))
 
 -- src/sync.rt:16:12
 shared-slice-read-if1 : tie.Need-shared-slice-read-if1 Inv-loop μ-loop
@@ -46,7 +50,7 @@ array-read-if1 c = search needs
 
 -- src/sync.rt:17:13
 add-wrong : tie.Need-add-wrong Inv-loop μ-loop
-add-wrong c = ?
+add-wrong c = omega arith
 
 -- src/sync.rt:19:9
 add-place : tie.Need-add-place Inv-loop μ-loop
@@ -58,11 +62,26 @@ loop-less c = search needs
 
 -- src/sync.rt:15:5
 loop-again : tie.Need-loop-again Inv-loop μ-loop
-loop-again c = ?
+loop-again c =
+    let l = c .before .before .before in
+    let frame = l .before .before .before .args .frame .now in
+    let counted = l .loop .inv .1 .1 in
+    ⊎-elim
+    (λ v.
+    let wrong = ne-eqb _ _ (λ e. v .0 .taken (e ∙ sym (sync-read l))) in
+    (omega arith, (omega (arith, v .1), v .1 ∙ ap (λ (n : ℕ). n + 1) counted ∙ sym (count-raised (l .loop .place) (unsynced frame) (ap not wrong)))))
+    (λ v.
+    let right = eq-eqb _ _ (v .0 .left ∙ sync-read l) in
+    (omega arith, (omega (arith, v .1), v .1 ∙ counted ∙ sym (count-kept (l .loop .place) (unsynced frame) (ap not right)))))
+    (c .if1 .came)
 
 -- src/sync.rt:8:1
 returns : tie.Need-returns Inv-loop μ-loop
-returns c = ?
+unfolding wrongSyncIn
+returns c =
+    let l = c .before in
+    let all : l .loop .place ≡ 162 = omega arith in
+    rw all at (l .loop .inv .1 .1)
 
 pub wrong-sync-spec : {M : Type 1} → statement M
 wrong-sync-spec =

@@ -1,0 +1,207 @@
+-- What repair refuses before it searches: 1, 15 and 7, each exactly when it applies and none before it does.
+use mathlib.Core.Path.{_≡_, refl, sym, ap, _∙_}
+use mathlib.Core.Logic.{_↔_, _⊎_, inl, inr, ⊎-elim}
+use Prim.Native.Nat.{ℕ, _≤_, _<_}
+use native.Mathlib.Omega.{arith}
+use mathlib.Core.Bool.{not}
+use mathlib.Core.List.{List}
+use lib.ListN.{length, getD}
+use borrow.Author.Tests.{eq-eqb, ne-eqb, lt-ltb, le-ltb, le-leb, lt-leb, leb-true, leb-false}
+use Rattle.basics.specs.Lists.{firstFailing}
+use Rattle.basics.proofs.Choice.{between-true, between-below, between-above, below-or-not, equal-or-not}
+use Rattle.basics.proofs.ListLaws.{firstFailing-end, fails-at, passes-before-first}
+use Rattle.refusal.specs.declared.Refusal.{Refusal}
+use Rattle.refusal.specs.Refusals.{refusal, wrongLength, symbolTooLarge, badBound}
+use Rattle.frame.specs.Symbols.{RightSymbols}
+use Rattle.frame.specs.Answer.{small, firstLarge}
+use Rattle.frame.proofs.SymbolLaws.{symbols-of-test}
+use Rattle.repair.specs.Answer.{firstBadBound, searched, repaired, repairNumbers}
+use Rattle.repair.specs.Demand.{Bounds, FirstLarge, AsChecked}
+use Rattle.repair.specs.declared.Repaired.{Repaired}
+use Rattle.repair.proofs.AnswerLaws.{no-bad-bound, repaired-searched, searched-number}
+
+-- ---- The first bound that is bad
+
+module _ (limit budget : ℕ) where
+  pub bad-limit-first : 12 < limit → firstBadBound limit budget ≡ 0
+  unfolding firstBadBound firstFailing
+  bad-limit-first h = rw (lt-leb limit 12 h)
+
+  pub bad-budget-next : limit ≤ 12 → (budget ≡ 0) ⊎ (65_536 < budget) → firstBadBound limit budget ≡ 1
+  unfolding firstBadBound firstFailing
+  bad-budget-next h =
+      ⊎-elim
+      (λ none. rw (le-leb limit 12 h, between-below 1 65_536 budget (omega arith)))
+      (λ more. rw (le-leb limit 12 h, between-above 1 65_536 budget (omega arith) more))
+
+  -- None is bad only within the bounds.
+  pub good-bounds : 2 ≤ firstBadBound limit budget → Bounds limit budget
+  good-bounds none =
+      record {
+        limit-to-12 = below-or-not 12 limit (λ more. absurd (omega (arith, bad-limit-first more))) (λ h. h);
+        budget-from-1 = below-or-not budget 1 (λ less. absurd (bad (inl (omega arith)))) (λ h. h);
+        budget-to-65536 = below-or-not 65_536 budget (λ more. absurd (bad (inr more))) (λ h. h);
+      }
+    where
+      bad : (budget ≡ 0) ⊎ (65_536 < budget) → ⊥
+      bad out = below-or-not 12 limit (λ more. omega (arith, bad-limit-first more)) (λ h. omega (arith, bad-budget-next h out))
+
+-- ---- The first symbol above 3
+
+module _ (frame : List ℕ) where
+  first-large : firstLarge frame < length frame → FirstLarge frame (firstLarge frame)
+  unfolding firstLarge
+  first-large h =
+      record {
+        within = h;
+        large = leb-false _ _ (fails-at small 0 frame h);
+        none-before = λ earlier k. leb-true _ _ (passes-before-first small 0 frame h earlier k);
+      }
+
+  -- There is one such place only.
+  only-first : (p q : ℕ) → FirstLarge frame p → FirstLarge frame q → p ≡ q
+  only-first p q a b =
+      below-or-not p q
+      (λ less. absurd (omega (arith, a .large, b .none-before p less)))
+      (λ no-less. below-or-not q p (λ less. absurd (omega (arith, b .large, a .none-before q less))) (λ same. omega arith))
+
+-- ---- The cases
+
+module _ (frame : List ℕ) (limit budget : ℕ) where
+  abbrev BadBudget : Type 0
+  BadBudget = (limit ≤ 12) × ((budget ≡ 0) ⊎ (65_536 < budget))
+
+  pub repaired-length : (length frame ≡ 162 → ⊥) → repaired frame limit budget ≡ Repaired.Refused (refusal wrongLength 0)
+  unfolding repaired
+  repaired-length other = rw (ne-eqb (length frame) 162 other)
+
+  module _ (long : length frame ≡ 162) where
+    pub repaired-bound : firstBadBound limit budget < 2 → repaired frame limit budget ≡ Repaired.Refused (refusal badBound (firstBadBound limit budget))
+    unfolding repaired
+    repaired-bound bad = rw (eq-eqb (length frame) 162 long, lt-ltb (firstBadBound limit budget) 2 bad)
+
+    pub repaired-large : 2 ≤ firstBadBound limit budget → firstLarge frame < 162
+        → repaired frame limit budget ≡ Repaired.Refused (refusal symbolTooLarge (firstLarge frame))
+    unfolding repaired
+    repaired-large good large =
+        rw (eq-eqb (length frame) 162 long, le-ltb (firstBadBound limit budget) 2 good, lt-ltb (firstLarge frame) 162 large)
+
+    pub repaired-right : 2 ≤ firstBadBound limit budget → 162 ≤ firstLarge frame → repaired frame limit budget ≡ searched frame limit budget
+    unfolding repaired
+    repaired-right good small-all =
+        rw (eq-eqb (length frame) 162 long, le-ltb (firstBadBound limit budget) 2 good, le-ltb (firstLarge frame) 162 small-all)
+
+  bound-refused : (place : ℕ) → firstBadBound limit budget ≡ place → place < 2 → length frame ≡ 162
+      → repaired frame limit budget ≡ Repaired.Refused (refusal badBound place)
+  bound-refused place e h long =
+      repaired-bound long (omega arith) ∙ ap (λ (p : ℕ). Repaired.Refused (refusal badBound p)) e
+
+  -- What holds of the answer in each case holds of it.
+  by-check : (P : Repaired → Type 0)
+      → ((length frame ≡ 162 → ⊥) → P (Repaired.Refused (refusal wrongLength 0)))
+      → (length frame ≡ 162 → 12 < limit → P (Repaired.Refused (refusal badBound 0)))
+      → (length frame ≡ 162 → BadBudget → P (Repaired.Refused (refusal badBound 1)))
+      → (length frame ≡ 162 → Bounds limit budget → FirstLarge frame (firstLarge frame) → P (Repaired.Refused (refusal symbolTooLarge (firstLarge frame))))
+      → (RightSymbols frame → Bounds limit budget → P (searched frame limit budget))
+      → P (repaired frame limit budget)
+  by-check P short limit-bad budget-bad large right =
+      equal-or-not (length frame) 162
+      (λ long.
+      below-or-not 12 limit
+      (λ more. at-bound long 0 (bad-limit-first limit budget more) (omega arith) (limit-bad long more))
+      (λ limit-good.
+      below-or-not budget 1
+      (λ none. bad-budget long (limit-good, inl (omega arith)))
+      (λ some. below-or-not 65_536 budget (λ more. bad-budget long (limit-good, inr more)) (λ budget-good. checked-bounds long (bounded limit-good some budget-good)))))
+      (λ other. rw (repaired-length other) (short other))
+    where
+      at-bound : length frame ≡ 162 → (place : ℕ) → firstBadBound limit budget ≡ place → place < 2 → P (Repaired.Refused (refusal badBound place))
+          → P (repaired frame limit budget)
+      at-bound long place e h p = rw (bound-refused place e h long) p
+
+      bad-budget : length frame ≡ 162 → BadBudget → P (repaired frame limit budget)
+      bad-budget long bad = at-bound long 1 (bad-budget-next limit budget (bad .0) (bad .1)) (omega arith) (budget-bad long bad)
+
+      bounded : limit ≤ 12 → 1 ≤ budget → budget ≤ 65_536 → Bounds limit budget
+      bounded h k l = record { limit-to-12 = h; budget-from-1 = k; budget-to-65536 = l }
+
+      checked-bounds : length frame ≡ 162 → Bounds limit budget → P (repaired frame limit budget)
+      checked-bounds long bounds =
+          let good : 2 ≤ firstBadBound limit budget = omega (arith, no-bad-bound frame limit budget bounds) in
+          below-or-not (firstLarge frame) 162
+          (λ is-large. rw (repaired-large long good is-large) (large long bounds (first-large frame (rw long is-large))))
+          (λ all-small. rw (repaired-right long good all-small) (right (symbols-of-test frame long all-small) bounds))
+
+  -- ---- Each exactly when it applies
+
+  -- Two refusals are the same only by number and place, and no search refuses so.
+  differs : {Q : Type 0} (f g : Refusal) → ((f .number ≡ g .number) × (f .place ≡ g .place) → ⊥) → Repaired.Refused f ≡ Repaired.Refused g → Q
+  unfolding repairNumbers
+  differs f g other e =
+      absurd (other (ap (λ (a : Repaired). repairNumbers a .number) e, ap (λ (a : Repaired). repairNumbers a .place) e))
+
+  not-searched : {Q : Type 0} (f : Refusal) → 0 < f .number → f .number < 16 → searched frame limit budget ≡ Repaired.Refused f → Q
+  unfolding repairNumbers
+  not-searched f h k e =
+      let number : repairNumbers (searched frame limit budget) .number ≡ f .number = ap (λ (a : Repaired). repairNumbers a .number) e in
+      ⊎-elim (λ answered. absurd (omega arith)) (λ refused. absurd (omega arith)) (searched-number frame limit budget)
+
+  length-told : repaired frame limit budget ≡ Repaired.Refused (refusal wrongLength 0) → length frame ≡ 162 → ⊥
+  length-told =
+      by-check (λ a. a ≡ Repaired.Refused (refusal wrongLength 0) → length frame ≡ 162 → ⊥)
+      (λ other e. other)
+      (λ long more. differs _ _ (λ same. omega (arith, same .0)))
+      (λ long bad. differs _ _ (λ same. omega (arith, same .0)))
+      (λ long bounds first. differs _ _ (λ same. omega (arith, same .0)))
+      (λ right bounds. not-searched _ (omega arith) (omega arith))
+
+  limit-told : repaired frame limit budget ≡ Repaired.Refused (refusal badBound 0) → (length frame ≡ 162) × (12 < limit)
+  limit-told =
+      by-check (λ a. a ≡ Repaired.Refused (refusal badBound 0) → (length frame ≡ 162) × (12 < limit))
+      (λ other. differs _ _ (λ same. omega (arith, same .0)))
+      (λ long more e. (long, more))
+      (λ long bad. differs _ _ (λ same. omega (arith, same .1)))
+      (λ long bounds first. differs _ _ (λ same. omega (arith, same .0)))
+      (λ right bounds. not-searched _ (omega arith) (omega arith))
+
+  budget-told : repaired frame limit budget ≡ Repaired.Refused (refusal badBound 1) → (length frame ≡ 162) × BadBudget
+  budget-told =
+      by-check (λ a. a ≡ Repaired.Refused (refusal badBound 1) → (length frame ≡ 162) × BadBudget)
+      (λ other. differs _ _ (λ same. omega (arith, same .0)))
+      (λ long more. differs _ _ (λ same. omega (arith, same .1)))
+      (λ long bad e. (long, bad))
+      (λ long bounds first. differs _ _ (λ same. omega (arith, same .0)))
+      (λ right bounds. not-searched _ (omega arith) (omega arith))
+
+  symbol-told : (place : ℕ) → repaired frame limit budget ≡ Repaired.Refused (refusal symbolTooLarge place)
+      → (length frame ≡ 162) × (Bounds limit budget × FirstLarge frame place)
+  unfolding repairNumbers
+  symbol-told place =
+      by-check (λ a. a ≡ Repaired.Refused (refusal symbolTooLarge place) → (length frame ≡ 162) × (Bounds limit budget × FirstLarge frame place))
+      (λ other. differs _ _ (λ same. omega (arith, same .0)))
+      (λ long more. differs _ _ (λ same. omega (arith, same .0)))
+      (λ long bad. differs _ _ (λ same. omega (arith, same .0)))
+      (λ long bounds first e. (long, (bounds, rw (same-place e) at first)))
+      (λ right bounds. not-searched _ (omega arith) (omega arith))
+    where
+      same-place : Repaired.Refused (refusal symbolTooLarge (firstLarge frame)) ≡ Repaired.Refused (refusal symbolTooLarge place) → firstLarge frame ≡ place
+      same-place e = ap (λ (a : Repaired). repairNumbers a .place) e
+
+  symbol-refused : (place : ℕ) → (length frame ≡ 162) × (Bounds limit budget × FirstLarge frame place)
+      → repaired frame limit budget ≡ Repaired.Refused (refusal symbolTooLarge place)
+  symbol-refused place (long, (bounds, first)) =
+      below-or-not (firstLarge frame) 162
+      (λ large.
+      let same = only-first frame (firstLarge frame) place (first-large frame (rw long large)) first in
+      repaired-large long (omega (arith, no-bad-bound frame limit budget bounds)) large
+      ∙ ap (λ (p : ℕ). Repaired.Refused (refusal symbolTooLarge p)) same)
+      (λ none. absurd (omega (arith, symbols-of-test frame long none .symbols-to-3 place (omega (arith, first .within)), first .large)))
+
+  pub checked : AsChecked frame limit budget (repaired frame limit budget)
+  checked =
+      record {
+        wrong-length = (length-told, repaired-length);
+        bad-limit = (limit-told, λ q. bound-refused 0 (bad-limit-first limit budget (q .1)) (omega arith) (q .0));
+        bad-budget = (budget-told, λ q. bound-refused 1 (bad-budget-next limit budget (q .1 .0) (q .1 .1)) (omega arith) (q .0));
+        large-symbol = λ place. (symbol-told place, symbol-refused place);
+      }
