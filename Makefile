@@ -1,25 +1,28 @@
 # What is made goes to target/ (rt), build/ (gcc) and tests/target/ (cargo).
 CC = gcc
 CFLAGS = -O2
+COMPILE = $(CC) -std=c11 -Wall -Wextra $(CFLAGS) -Iinclude
 
-.PHONY: run test library program clean
+# The programs of host/. What each is to print stands beside it, in host/NAME.stdout.
+HOST = messages frames repair telemetry
 
-# The product at work: a few messages, frames and telemetry reports through the C interface.
-run: build/messages build/frames build/telemetry
-	./build/messages
-	./build/frames
-	./build/telemetry
+.PHONY: run test bench library program clean
+
+# The product at work: a few messages, frames, repairs and telemetry reports through the C interface.
+run: $(HOST:%=build/%)
+	for name in $(HOST); do ./build/$$name || exit 1; done
 
 # The outside tests, then the gate, whose last line is 'N passed, 0 failed'.
-test: build/messages build/frames build/telemetry program
-	./build/messages > build/messages.stdout
-	diff host/messages.stdout build/messages.stdout
-	./build/frames > build/frames.stdout
-	diff host/frames.stdout build/frames.stdout
-	./build/telemetry > build/telemetry.stdout
-	diff host/telemetry.stdout build/telemetry.stdout
+test: $(HOST:%=build/%) program
+	for name in $(HOST); do \
+	    ./build/$$name > build/$$name.stdout && diff host/$$name.stdout build/$$name.stdout || exit 1; \
+	done
 	cd tests && cargo test --release --offline
 	rt ci
+
+# Repair and a search written by hand in C, side by side in one run.
+bench: build/bench_repair
+	./build/bench_repair
 
 # rt proves what has changed since the last time, and writes the library only where all is proved.
 library:
@@ -33,7 +36,11 @@ target/staticlib/libwsprcard.a: library
 
 build/%: host/%.c include/wsprcard.h target/staticlib/libwsprcard.a
 	mkdir -p build
-	$(CC) -std=c11 -Wall -Wextra $(CFLAGS) -Iinclude -o $@ $< target/staticlib/libwsprcard.a
+	$(COMPILE) -o $@ $< target/staticlib/libwsprcard.a
+
+build/bench_repair: bench/repair.c bench/search.c bench/search.h include/wsprcard.h target/staticlib/libwsprcard.a
+	mkdir -p build
+	$(COMPILE) -o $@ bench/repair.c bench/search.c target/staticlib/libwsprcard.a
 
 clean:
 	rm -rf target build tests/target

@@ -1,5 +1,6 @@
 /*
- * wsprcard: WSPR type 1 messages, their 50-bit words, frames of 162 symbols, and U4B basic telemetry.
+ * wsprcard: WSPR type 1 messages, their 50-bit words, frames of 162 symbols and their repair, and U4B
+ * basic telemetry.
  *
  * Every call takes any bytes and any numbers, always ends, and either does its job or refuses by the
  * table below. On success `refusal` and `place` are 0. On a refusal every other number of the result
@@ -33,12 +34,24 @@
  *                                                                2 grid5, 3 grid6, 4 altitude,
  *                                                                5 temperature, 6 voltage, 7 speed,
  *                                                                8 gps
+ *   15 the limit is above 12; the budget is 0 or above 65,536    0 the limit, 1 the budget
+ *   16 the live count is above the budget                        0
+ *   17 no word is within the limit                               0
+ *   18 two or more words share the fewest disagreements          0
  *
  * Callsign places 0 to 5: 0 is 0-9, A-Z or space; 1 is 0-9 or A-Z; 2 is 0-9; 3 to 5 are A-Z or
  * space. Locator places 6 to 9: 6 and 7 are A-R, 8 and 9 are 0-9. Capitals only. The powers are
  * 0 3 7 10 13 17 20 23 27 30 33 37 40 43 47 50 53 57 60 dBm.
  *
- * A frame is one byte a symbol, each 0 to 3, in the order in which they are sent.
+ * A frame is one byte a symbol, each 0 to 3, in the order in which they are sent. A symbol is its sync
+ * bit (the symbol modulo 2) and twice its data bit.
+ *
+ * The word's 50 bits, highest first, and then 31 zeros are clocked into the coder, and each of these 81
+ * gives two of the frame's 162 data bits. The disagreements of a word with a received frame are the
+ * number of data bits in which the word's own frame differs from it. A prefix is the first 1 to 81
+ * clocked bits of a word, and its disagreements are counted in its own data bits only, two for each of
+ * its bits. It is live if they are at most the limit. The live count is the number of live prefixes of
+ * all lengths together.
  *
  * Telemetry comes as a message. The callsign's places 0 and 2, its first and third character, name
  * the channel. The number A, of sub-square and altitude, has its digits in places 1, 3, 4 and 5, with
@@ -70,6 +83,14 @@ typedef struct {
 typedef struct {
     uint32_t refusal, place, power;
 } wspr_message;
+
+/* The word nearest to a received frame: its disagreements in data bits, 0 to 12; the live count in prefixes, 81 to
+ * 65,536; the number of symbols whose sync bit is wrong, 0 to 162. */
+typedef struct {
+    uint32_t refusal, place;
+    uint64_t word;
+    uint32_t disagreements, live, sync_wrong;
+} wspr_repaired;
 
 /* What telemetry says, in the units in which it is read: metres, degrees, millivolts, knots. */
 typedef struct {
@@ -104,6 +125,18 @@ wspr_word wspr_read_word(const uint8_t *frame, size_t frame_len);
  * their lengths it refuses exactly the frames that wspr_write_message never makes. */
 wspr_message wspr_read_message(const uint8_t *frame, size_t frame_len, uint8_t *callsign, size_t callsign_len,
                                uint8_t *locator, size_t locator_len);
+
+/* Repair: the word with the fewest disagreements of all 2^50 words, from a frame that may be damaged and is only read.
+ * The live count measures the work: the search stops at once where it passes the budget.
+ *
+ *   limit   0 to 12 data bits: the most disagreements that the word may have
+ *   budget  1 to 65,536 prefixes: the largest live count that is gone through
+ *
+ * Refusals 1, 15, 7, 16, 17, 18, in that order. Sync bits never refuse a repair: the wrong ones are counted. Whichever
+ * word was sent, and whichever of its frame's data bits were flipped, two at most, limit 2 and budget 16,000 give it
+ * back, with the number of flipped bits as its disagreements. A repaired word need not be a message's: wspr_unpack
+ * turns it into its message, or refuses. */
+wspr_repaired wspr_repair(const uint8_t *frame, size_t frame_len, uint32_t limit, uint32_t budget);
 
 /* The message of a telemetry report: writes its callsign and locator, returns its power. Steps are rounded down, but
  * tenths of a degree are dropped toward zero.

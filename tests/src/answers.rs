@@ -1,6 +1,7 @@
 // What the C interface is to return for the answers of the independent implementation.
 use crate::card;
 use crate::reference::message::Message;
+use crate::reference::repair::Repaired;
 use crate::reference::telemetry::Telemetry;
 use crate::reference::Refusal;
 
@@ -15,6 +16,15 @@ pub fn message_answer(answer: Result<Message, Refusal>) -> card::Message {
     match answer {
         Ok(message) => card::Message { refusal: 0, place: 0, power: message.power },
         Err(refusal) => refused_message(refusal.number, refusal.place),
+    }
+}
+
+pub fn repaired_answer(answer: Result<Repaired, Refusal>) -> card::Repaired {
+    match answer {
+        Ok(Repaired { word, disagreements, live, sync_wrong }) => {
+            card::Repaired { refusal: 0, place: 0, word, disagreements, live, sync_wrong }
+        }
+        Err(refusal) => refused_repair(refusal.number, refusal.place),
     }
 }
 
@@ -51,6 +61,10 @@ pub fn refused_word(refusal: u32, place: u32) -> card::Word {
 
 pub fn refused_message(refusal: u32, place: u32) -> card::Message {
     card::Message { refusal, place, power: 0 }
+}
+
+pub fn refused_repair(refusal: u32, place: u32) -> card::Repaired {
+    card::Repaired { refusal, place, word: 0, disagreements: 0, live: 0, sync_wrong: 0 }
 }
 
 pub fn refused_reading(refusal: u32, place: u32) -> card::Reading {

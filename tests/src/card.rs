@@ -27,6 +27,17 @@ pub struct Written {
 
 #[repr(C)]
 #[derive(Clone, Copy, Debug, PartialEq, Eq)]
+pub struct Repaired {
+    pub refusal: u32,
+    pub place: u32,
+    pub word: u64,
+    pub disagreements: u32,
+    pub live: u32,
+    pub sync_wrong: u32,
+}
+
+#[repr(C)]
+#[derive(Clone, Copy, Debug, PartialEq, Eq)]
 pub struct Reading {
     pub refusal: u32,
     pub place: u32,
@@ -80,6 +91,8 @@ extern "C" {
         locator: *mut u8,
         locator_len: usize,
     ) -> Message;
+
+    fn wspr_repair(frame: *const u8, frame_len: usize, limit: u32, budget: u32) -> Repaired;
 
     fn u4b_write(
         first: u8,
@@ -155,6 +168,10 @@ pub fn read_message(frame: &[u8], callsign: &mut [u8], locator: &mut [u8]) -> Me
             locator.len(),
         )
     }
+}
+
+pub fn repair(frame: &[u8], limit: u32, budget: u32) -> Repaired {
+    unsafe { wspr_repair(frame.as_ptr(), frame.len(), limit, budget) }
 }
 
 pub fn write_telemetry(telemetry: &Telemetry, callsign: &mut [u8], locator: &mut [u8]) -> Message {
@@ -250,6 +267,11 @@ pub fn read_message_lent(frame: &mut Lent, callsign: &mut Lent, locator: &mut Le
             locator.len(),
         )
     }
+}
+
+/// `repair` from a buffer that shows whether anything was written.
+pub fn repair_lent(frame: &mut Lent, limit: u32, budget: u32) -> Repaired {
+    unsafe { wspr_repair(frame.pointer(), frame.len(), limit, budget) }
 }
 
 /// `write_telemetry` into buffers that show what was written.

@@ -1,7 +1,9 @@
-// Random messages, words, frames and telemetry: legal ones, and such as are refused.
+// Random messages, words, frames, repairs and telemetry: legal ones, and such as are refused.
 use crate::reference::frame::{frame_of, FRAME_LEN};
 use crate::reference::message::{word_of, Message, CALLSIGNS, CHARACTERS, LOCATORS, POWERS, WORDS};
+use crate::reference::repair::live_count;
 use crate::reference::telemetry::Telemetry;
+use crate::reference::Refusal;
 use crate::rng::Rng;
 
 pub fn random_message(rng: &mut Rng) -> Message {
@@ -119,8 +121,70 @@ pub fn random_places(rng: &mut Rng, count: usize) -> Vec<usize> {
     places
 }
 
+/// The frame with the data bits at these places flipped.
+pub fn flipped(mut frame: [u8; FRAME_LEN], places: &[usize]) -> [u8; FRAME_LEN] {
+    for &place in places {
+        frame[place] ^= 2;
+    }
+    frame
+}
+
+/// The places at which the data bits of two frames differ.
+pub fn differing_places(one: &[u8; FRAME_LEN], other: &[u8; FRAME_LEN]) -> Vec<usize> {
+    (0..FRAME_LEN).filter(|&place| one[place] / 2 != other[place] / 2).collect()
+}
+
+/// Turns so many sync bits over.
+pub fn spoil_sync(rng: &mut Rng, frame: &mut [u8; FRAME_LEN], count: usize) {
+    for place in random_places(rng, count) {
+        frame[place] ^= 1;
+    }
+}
+
+/// Any symbols 0 to 3.
+pub fn noise(rng: &mut Rng) -> [u8; FRAME_LEN] {
+    [0; FRAME_LEN].map(|_| rng.below(4) as u8)
+}
+
 pub fn bad_symbol(rng: &mut Rng) -> u8 {
     rng.between(4, 255) as u8
+}
+
+/// What repair is asked, and the refusal it is to give.
+#[derive(Debug)]
+pub struct Asked {
+    pub symbols: Vec<u8>,
+    pub limit: u32,
+    pub budget: u32,
+    pub refusal: Option<Refusal>,
+}
+
+/// Asks with just these faults, a bit each from the lowest on: the length, the limit, the
+/// budget, a symbol above 3, a live count above the budget, no word within the limit. Repair
+/// refuses them in this order.
+pub fn asked_with_faults(rng: &mut Rng, faults: u32) -> Asked {
+    let has = |fault: u32| faults >> fault & 1 == 1;
+    let flips = if has(5) { 3 } else { rng.below(3) as usize };
+    let places = random_places(rng, flips);
+    let mut frame = flipped(random_frame(rng), &places);
+    let live = live_count(&frame, 2);
+    let limit = if has(1) { rng.pick(&[13, 14, 258, u32::MAX]) } else { 2 };
+    let budget = match faults {
+        _ if has(2) => rng.pick(&[0, 65_537, 131_072, u32::MAX]),
+        _ if has(4) => rng.between(1, live - 1) as u32,
+        _ => rng.between(live, 65_536) as u32,
+    };
+    let place = rng.below(FRAME_LEN as u64) as usize;
+    if has(3) {
+        frame[place] = bad_symbol(rng);
+    }
+    let len = if has(0) { rng.pick(&[0, 1, 161, 163, 324, 418]) } else { FRAME_LEN };
+    let symbols = resized(rng, &frame, len);
+    // Each has place 0 but the budget and the symbol.
+    let table = [(1, 0), (15, 0), (15, 1), (7, place as u32), (16, 0), (17, 0)];
+    let first = table.get(faults.trailing_zeros() as usize);
+    let refusal = first.map(|&(number, place)| Refusal { number, place });
+    Asked { symbols, limit, budget, refusal }
 }
 
 /// Inputs in their ranges, in the units in which they are written.

@@ -1,9 +1,10 @@
 // What the outside tests share: the library under test, an independent implementation to
 // compare it with, lent buffers that show every write, random inputs from a seeded generator,
-// counts of the answers, and the vectors of WSJT-X.
+// counts of the answers, facts of the code, and the vectors of WSJT-X.
 pub mod answers;
 pub mod card;
 pub mod counts;
+pub mod facts;
 pub mod inputs;
 pub mod lent;
 pub mod reference;

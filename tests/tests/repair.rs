@@ -2,30 +2,21 @@
 // small enough to count everything, and the papers' facts about live counts, distances and
 // flipped bits are counted anew on frames.
 use wsprcard_tests::counts::Counts;
+use wsprcard_tests::facts::{CLEAN, LEAST_DISTANCE, LIGHTEST};
 use wsprcard_tests::inputs::{
-    bad_symbol, edge_words, random_frame, random_places, random_word, resized, wrong_lengths,
+    asked_with_faults, bad_symbol, differing_places, edge_words, flipped, noise, random_frame,
+    random_places, random_word, resized, spoil_sync, wrong_lengths,
 };
 use wsprcard_tests::reference::frame::{frame_of, frame_of_clocked, sync, CLOCKED, FRAME_LEN};
 use wsprcard_tests::reference::message::WORDS;
-use wsprcard_tests::reference::repair::{data_bits, repair, Code, Nearest, Prefix, Repaired, WSPR};
+use wsprcard_tests::reference::repair::{
+    data_bits, live_count, repair, Code, Nearest, Prefix, Repaired, LARGEST_BUDGET, WSPR,
+};
 use wsprcard_tests::reference::Refusal;
 use wsprcard_tests::rng::Rng;
 use wsprcard_tests::vectors::{self, Vector};
 
 type Frame = [u8; FRAME_LEN];
-
-/// The live counts of a clean frame at limits 0 to 12: of the zero word's frame they are the
-/// prefixes with so many ones or fewer among their coded bits.
-const CLEAN: [u64; 13] =
-    [81, 81, 131, 279, 569, 1_573, 3_495, 7_611, 17_851, 42_557, 97_265, 222_823, 514_948];
-
-/// Frames of different words differ in so many data bits or more.
-const LEAST_DISTANCE: u32 = 28;
-
-/// The word whose frame has so few ones, as have those of its 31 shifted copies.
-const LIGHTEST: u64 = 0x546c3;
-
-const LARGEST_BUDGET: u32 = 65_536;
 
 /// A code of three bits, so that all of its 1,024 received patterns can be tried.
 const TINY: Code = Code { word_bits: 3, register_bits: 3, masks: [0b111, 0b101], tail: 2 };
@@ -82,30 +73,6 @@ fn number_of<Answer>(answer: &Result<Answer, Refusal>) -> u32 {
 
 fn refused<Answer>(number: u32, place: u32) -> Result<Answer, Refusal> {
     Err(Refusal { number, place })
-}
-
-/// The live count, all lengths together.
-fn live_count(frame: &[u8], limit: u32) -> u64 {
-    WSPR.live_counts(&data_bits(frame), limit).iter().sum()
-}
-
-fn flipped(mut frame: Frame, places: &[usize]) -> Frame {
-    for &place in places {
-        frame[place] ^= 2;
-    }
-    frame
-}
-
-/// Turns so many sync bits over.
-fn spoil_sync(rng: &mut Rng, frame: &mut Frame, count: usize) {
-    for place in random_places(rng, count) {
-        frame[place] ^= 1;
-    }
-}
-
-/// The places at which the data bits of two frames differ.
-fn differing_places(one: &Frame, other: &Frame) -> Vec<usize> {
-    (0..FRAME_LEN).filter(|&place| one[place] / 2 != other[place] / 2).collect()
 }
 
 fn random_bits(rng: &mut Rng, count: usize) -> Vec<u8> {
@@ -401,8 +368,7 @@ fn damaged_frames_have_the_live_counts_of_the_definition() {
     for turn in 0..600 {
         let limit = turn as u32 % 6;
         let frame = if turn % 7 == 0 {
-            let noise: Vec<u8> = (0..FRAME_LEN).map(|_| rng.below(4) as u8).collect();
-            noise.try_into().expect("162 symbols")
+            noise(&mut rng)
         } else {
             let flips = random_places(&mut rng, turn % 9);
             flipped(random_frame(&mut rng), &flips)
@@ -711,29 +677,11 @@ fn the_first_symbol_above_3_is_refused() {
 #[test]
 fn refusals_come_in_their_order() {
     let mut check = Check::new(22);
-    for faults in 0u32..64 {
-        let has = |fault: u32| faults >> fault & 1 == 1;
+    for faults in 0..64 {
         for _ in 0..200 {
-            let rng = &mut check.rng;
-            let flips = if has(5) { 3 } else { rng.below(3) as usize };
-            let places = random_places(rng, flips);
-            let mut frame = flipped(random_frame(rng), &places);
-            let live = live_count(&frame, 2);
-            let limit = if has(1) { rng.pick(&[13, 14, 258, u32::MAX]) } else { 2 };
-            let budget = match faults {
-                _ if has(2) => rng.pick(&[0, 65_537, 131_072, u32::MAX]),
-                _ if has(4) => rng.between(1, live - 1) as u32,
-                _ => rng.between(live, 65_536) as u32,
-            };
-            let place = rng.below(FRAME_LEN as u64) as usize;
-            if has(3) {
-                frame[place] = bad_symbol(rng);
-            }
-            let len = if has(0) { rng.pick(&[0, 1, 161, 163, 324, 418]) } else { FRAME_LEN };
-            let symbols = resized(rng, &frame, len);
-            let refusal = check.repair(&symbols, limit, budget).err();
-            let expected = first_of_faults(faults, place as u32);
-            assert_eq!(refusal, expected, "faults {faults:b}: {symbols:?} {limit} {budget}");
+            let asked = asked_with_faults(&mut check.rng, faults);
+            let found = check.repair(&asked.symbols, asked.limit, asked.budget);
+            assert_eq!(found.err(), asked.refusal, "faults {faults:b}: {asked:?}");
         }
     }
     check.finish(&[
@@ -744,14 +692,6 @@ fn refusals_come_in_their_order() {
         ("repair", 16, 2 * 200),
         ("repair", 17, 200),
     ]);
-}
-
-/// Repair's refusals are 1, 15, 7, 16 and 17, in this order. Each has place 0 but the budget's
-/// and the symbol's.
-fn first_of_faults(faults: u32, symbol_place: u32) -> Option<Refusal> {
-    let table = [(1, 0), (15, 0), (15, 1), (7, symbol_place), (16, 0), (17, 0)];
-    let (number, place) = *table.get(faults.trailing_zeros() as usize)?;
-    Some(Refusal { number, place })
 }
 
 // Small codes

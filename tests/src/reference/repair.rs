@@ -6,7 +6,7 @@ use super::Refusal;
 use std::iter;
 
 const LARGEST_LIMIT: u32 = 12;
-const LARGEST_BUDGET: u32 = 65_536;
+pub const LARGEST_BUDGET: u32 = 65_536;
 
 #[derive(Clone, Copy, Debug, PartialEq, Eq)]
 pub struct Repaired {
@@ -37,6 +37,11 @@ fn check_range(limit: u32, budget: u32) -> Result<(), Refusal> {
 /// The received data bits, put back in coded order.
 pub fn data_bits(frame: &[u8]) -> Vec<u8> {
     frame::places().map(|place| frame[place] / 2).collect()
+}
+
+/// The live count of a frame, all lengths together.
+pub fn live_count(frame: &[u8], limit: u32) -> u64 {
+    WSPR.live_counts(&data_bits(frame), limit).iter().sum()
 }
 
 /// How many symbols have a wrong sync bit.

@@ -1,0 +1,185 @@
+/* A search written by hand in C, without proofs: the same tree, the same answers and refusals as wspr_repair. */
+#include "search.h"
+
+#include <string.h>
+
+#define SYMBOLS 162
+#define CLOCKED 81
+#define WORD_BITS 50
+#define LARGEST_LIMIT 12
+#define LARGEST_BUDGET 65536
+
+#define EACH_BYTE UINT64_C(0x0101010101010101)
+
+/* What a clocked 1 adds to the coded bits of the 31 steps after it, two bits a step from the lowest on: the masks
+ * F2D05351 and E4613C47 from their bit 1 on, interleaved, with the first mask's bits above the second's. */
+#define ADDED UINT64_C(0x3f862d8049d68c85)
+
+/* Where the coded bits stand in a frame. */
+static const uint8_t places[SYMBOLS] = {
+    0, 128, 64, 32, 160, 96, 16, 144, 80, 48, 112, 8, 136, 72, 40, 104, 24, 152, 88, 56, 120, 4, 132, 68,
+    36, 100, 20, 148, 84, 52, 116, 12, 140, 76, 44, 108, 28, 156, 92, 60, 124, 2, 130, 66, 34, 98, 18, 146,
+    82, 50, 114, 10, 138, 74, 42, 106, 26, 154, 90, 58, 122, 6, 134, 70, 38, 102, 22, 150, 86, 54, 118, 14,
+    142, 78, 46, 110, 30, 158, 94, 62, 126, 1, 129, 65, 33, 161, 97, 17, 145, 81, 49, 113, 9, 137, 73, 41,
+    105, 25, 153, 89, 57, 121, 5, 133, 69, 37, 101, 21, 149, 85, 53, 117, 13, 141, 77, 45, 109, 29, 157,
+    93, 61, 125, 3, 131, 67, 35, 99, 19, 147, 83, 51, 115, 11, 139, 75, 43, 107, 27, 155, 91, 59, 123, 7,
+    135, 71, 39, 103, 23, 151, 87, 55, 119, 15, 143, 79, 47, 111, 31, 159, 95, 63, 127,
+};
+
+static const uint8_t sync_bits[SYMBOLS] = {
+    1, 1, 0, 0, 0, 0, 0, 0, 1, 0, 0, 0, 1, 1, 1, 0, 0, 0, 1, 0, 0, 1, 0, 1, 1, 1, 1, 0, 0, 0, 0, 0, 0, 0,
+    1, 0, 0, 1, 0, 1, 0, 0, 0, 0, 0, 0, 1, 0, 1, 1, 0, 0, 1, 1, 0, 1, 0, 0, 0, 1, 1, 0, 1, 0, 0, 0, 0, 1,
+    1, 0, 1, 0, 1, 0, 1, 0, 1, 0, 0, 1, 0, 0, 1, 0, 1, 1, 0, 0, 0, 1, 1, 0, 1, 0, 1, 0, 0, 0, 1, 0, 0, 0,
+    0, 0, 1, 0, 0, 1, 0, 0, 1, 1, 1, 0, 1, 1, 0, 0, 1, 1, 0, 1, 0, 0, 0, 1, 1, 1, 0, 0, 0, 0, 0, 1, 0, 1,
+    0, 0, 1, 1, 0, 0, 0, 0, 0, 0, 0, 1, 1, 0, 1, 0, 1, 1, 0, 0, 0, 1, 1, 0, 0, 0,
+};
+
+/* A prefix of a word: its bits, the newest lowest; the coded bits to come if only zeros follow, two a step from the
+ * lowest on; how many bits it has; and how many more disagreements it may have. Below 0 it isn't live. */
+typedef struct {
+    uint64_t bits, coming;
+    uint32_t length;
+    int32_t left;
+} prefix;
+
+static uint64_t eight(const uint8_t *symbols)
+{
+    uint64_t bytes;
+
+    memcpy(&bytes, symbols, sizeof bytes);
+    return bytes;
+}
+
+/* The first symbol above 3, or SYMBOLS. The last eight overlap the others. */
+static uint32_t first_above_3(const uint8_t *frame)
+{
+    uint64_t all = eight(frame + SYMBOLS - 8);
+    uint32_t place = 0;
+
+    for (size_t i = 0; i + 8 <= SYMBOLS; i += 8)
+        all |= eight(frame + i);
+    if (!(all & ~(3 * EACH_BYTE)))
+        return SYMBOLS;
+    while (frame[place] <= 3)
+        place++;
+    return place;
+}
+
+/* A byte of the sum counts up to 20, and all of them together are below 256. */
+static uint32_t count_sync_wrong(const uint8_t *frame)
+{
+    uint64_t wrong = 0;
+    size_t i;
+
+    for (i = 0; i + 8 <= SYMBOLS; i += 8)
+        wrong += (eight(frame + i) ^ eight(sync_bits + i)) & EACH_BYTE;
+    wrong = wrong * EACH_BYTE >> 56;
+    for (; i < SYMBOLS; i++)
+        wrong += (frame[i] ^ sync_bits[i]) & 1;
+    return (uint32_t)wrong;
+}
+
+/* Makes a prefix one bit longer, either way: it becomes its child with the fewer disagreements, and `other` the other
+ * one. Both masks take the newest bit, so that the coded bits of a 1 are the complements of those of a 0, one pair of
+ * parities serves both children, and they cost 2 disagreements together. */
+static inline void extend(prefix *nearer, prefix *other, uint32_t received)
+{
+    uint32_t differing = ((uint32_t)nearer->coming & 3) ^ received;
+    uint64_t bit = differing & differing >> 1;
+    int32_t cost = (differing ^ differing >> 1) & 1;
+
+    other->bits = nearer->bits << 1 | (bit ^ 1);
+    other->coming = nearer->coming >> 2 ^ (ADDED & (bit - 1));
+    other->length = nearer->length + 1;
+    other->left = nearer->left - (2 - cost);
+    nearer->bits = nearer->bits << 1 | bit;
+    nearer->coming = nearer->coming >> 2 ^ (ADDED & -bit);
+    nearer->length++;
+    nearer->left -= cost;
+}
+
+/* Clocks the zeros in after a word's bits, and counts what is live. Returns what is left of the limit. */
+static int32_t clock_tail(const uint8_t *received, const prefix *word, uint32_t *live)
+{
+    uint64_t coming = word->coming;
+    int32_t left = word->left;
+
+    for (size_t i = WORD_BITS; i < CLOCKED; i++) {
+        uint32_t differing = ((uint32_t)coming & 3) ^ received[i];
+
+        left -= (int32_t)((differing >> 1) + (differing & 1));
+        if (left < 0)
+            break;
+        ++*live;
+        coming >>= 2;
+    }
+    return left;
+}
+
+/* Depth first, the nearer child first. The other one is put on the stack in any case and stays there only if it is
+ * live: a branch would be mispredicted too often. Returns the refusal's number. */
+static uint32_t search(const uint8_t *received, uint32_t limit, uint32_t budget, wspr_repaired *found)
+{
+    prefix stack[WORD_BITS], now = {0, 0, 0, (int32_t)limit};
+    uint32_t waiting = 0, live = 0, words = 0;
+    int32_t most = 0;
+
+    for (;;) {
+        while (now.length < WORD_BITS) {
+            extend(&now, &stack[waiting], received[now.length]);
+            if (now.left < 0)
+                break;
+            live += 1 + (stack[waiting].left >= 0);
+            waiting += stack[waiting].left >= 0;
+            if (live > budget)
+                return 16;
+        }
+        if (now.left >= 0) {
+            int32_t left = clock_tail(received, &now, &live);
+
+            if (live > budget)
+                return 16;
+            if (left > most || (left == most && words == 0)) {
+                most = left;
+                words = 0;
+                found->word = now.bits;
+            }
+            words += left == most;
+        }
+        if (waiting == 0)
+            break;
+        now = stack[--waiting];
+    }
+    found->live = live;
+    found->disagreements = limit - (uint32_t)most;
+    return words == 0 ? 17 : words == 1 ? 0 : 18;
+}
+
+static wspr_repaired refused(uint32_t refusal, uint32_t place)
+{
+    return (wspr_repaired){.refusal = refusal, .place = place};
+}
+
+wspr_repaired search_repair(const uint8_t *frame, size_t frame_len, uint32_t limit, uint32_t budget)
+{
+    uint8_t received[CLOCKED];
+    wspr_repaired found = {0};
+    uint32_t place, refusal;
+
+    if (frame_len != SYMBOLS)
+        return refused(1, 0);
+    if (limit > LARGEST_LIMIT)
+        return refused(15, 0);
+    if (budget == 0 || budget > LARGEST_BUDGET)
+        return refused(15, 1);
+    place = first_above_3(frame);
+    if (place < SYMBOLS)
+        return refused(7, place);
+    for (size_t i = 0; i < CLOCKED; i++)
+        received[i] = (uint8_t)((frame[places[2 * i]] & 2) | frame[places[2 * i + 1]] >> 1);
+    refusal = search(received, limit, budget, &found);
+    if (refusal)
+        return refused(refusal, 0);
+    found.sync_wrong = count_sync_wrong(frame);
+    return found;
+}
