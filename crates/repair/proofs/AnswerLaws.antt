@@ -1,5 +1,5 @@
 -- Repair's answer is what demand 3 asks for; and what its bounds and its count of wrong sync bits mean.
-use mathlib.Core.Path.{_≡_, refl, ap, _∙_}
+use mathlib.Core.Path.{_≡_, refl, sym, ap, _∙_}
 use mathlib.Core.Logic.{_↔_, _⊎_, inl, inr}
 use Prim.Native.Nat.{ℕ, _%_, _≤_, _<_}
 use native.Mathlib.Omega.{arith}
@@ -132,6 +132,15 @@ module _ (frame : List ℕ) (limit budget : ℕ) where
       (λ within far. inr (omega arith))
       (λ within near two. inr (omega arith))
       (λ within near one. inl refl)
+
+  pub searched-refusal : (f : Refusal) → searched frame limit budget ≡ Repaired.Refused f → 0 < f .number
+  unfolding repairNumbers
+  searched-refusal f =
+      by-case (λ a. a ≡ Repaired.Refused f → 0 < f .number)
+      (λ over e. omega (arith, number-same _ _ e))
+      (λ within far e. omega (arith, number-same _ _ e))
+      (λ within near two e. omega (arith, number-same _ _ e))
+      (λ within near one e. absurd (refused-not-word f _ (sym e)))
 
   -- ---- Out of budget
 

@@ -18,7 +18,7 @@ use Rattle.frame.proofs.SymbolLaws.{symbols-of-test}
 use Rattle.repair.specs.Answer.{firstBadBound, searched, repaired, repairNumbers}
 use Rattle.repair.specs.Demand.{Bounds, FirstLarge, AsChecked}
 use Rattle.repair.specs.declared.Repaired.{Repaired}
-use Rattle.repair.proofs.AnswerLaws.{no-bad-bound, repaired-searched, searched-number}
+use Rattle.repair.proofs.AnswerLaws.{no-bad-bound, searched-number, searched-refusal}
 
 -- ---- The first bound that is bad
 
@@ -196,6 +196,20 @@ module _ (frame : List ℕ) (limit budget : ℕ) where
       repaired-large long (omega (arith, no-bad-bound frame limit budget bounds)) large
       ∙ ap (λ (p : ℕ). Repaired.Refused (refusal symbolTooLarge p)) same)
       (λ none. absurd (omega (arith, symbols-of-test frame long none .symbols-to-3 place (omega (arith, first .within)), first .large)))
+
+  -- A refusal's number is above 0.
+  pub refusal-number : (f : Refusal) → repaired frame limit budget ≡ Repaired.Refused f → 0 < f .number
+  unfolding repairNumbers
+  refusal-number f =
+      by-check (λ a. a ≡ Repaired.Refused f → 0 < f .number)
+      (λ other e. omega (arith, number-told e))
+      (λ long more e. omega (arith, number-told e))
+      (λ long bad e. omega (arith, number-told e))
+      (λ long bounds first e. omega (arith, number-told e))
+      (λ right bounds. searched-refusal frame limit budget f)
+    where
+      number-told : {g : Refusal} → Repaired.Refused g ≡ Repaired.Refused f → g .number ≡ f .number
+      number-told e = ap (λ (a : Repaired). repairNumbers a .number) e
 
   pub checked : AsChecked frame limit budget (repaired frame limit budget)
   checked =

@@ -2,16 +2,21 @@
 use Prim.Native.Nat.{ℕ}
 use mathlib.Core.Path.{_≡_}
 use mathlib.Core.Logic.{_↔_}
+use mathlib.Core.Bool.{cond}
 use mathlib.Core.List.{List}
+use lib.Dec.{eqb}
 use lib.IntN.{ℤ}
 use lib.ListN.{length}
-use Rattle.refusal.specs.Refusals.{noWord}
+use Rattle.refusal.specs.Refusals.{refusal, noWord}
 use Rattle.message.specs.Answer.{packed, WordNumbers, PowerNumbers}
 use Rattle.message.specs.RoundTrip.{ReadsAs, NeverMade}
 use Rattle.message.specs.declared.Packed.{Packed}
 use Rattle.frame.specs.Answer.{writtenRefusal}
 use Rattle.frame.specs.RoundTrip.{ReadsAsWord, WordWritesAs, NeverFromWord, RightForm, NoWord, ReadsAsMessage, MessageWritesAs, NeverFromMessage}
 use Rattle.frame.specs.declared.Written.{Written}
+use Rattle.repair.specs.Answer.{RepairNumbers}
+use Rattle.repair.specs.declared.Nearest.{Nearest}
+use Rattle.repair.specs.declared.Repaired.{Repaired}
 use Rattle.telemetry.specs.Answer.{decoded, ReadingNumbers}
 use Rattle.telemetry.specs.RoundTrip.{quantised, inTenths, WritesAs, NeverWritten}
 use Rattle.telemetry.specs.declared.Measured.{Measured}
@@ -20,6 +25,7 @@ use Rattle.telemetry.specs.declared.Decoded.{Decoded}
 use Rattle.wsprcard.specs.declared.WsprWritten.{WsprWritten}
 use Rattle.wsprcard.specs.declared.WsprWord.{WsprWord}
 use Rattle.wsprcard.specs.declared.WsprMessage.{WsprMessage}
+use Rattle.wsprcard.specs.declared.WsprRepaired.{WsprRepaired}
 use Rattle.wsprcard.specs.declared.U4bReading.{U4bReading}
 
 -- ---- The answers' result numbers, as the layer's definition gives them, field by field
@@ -32,6 +38,18 @@ wordResult numbers = record { refusal = numbers .number; place = numbers .place;
 
 unfoldable pub messageResult : PowerNumbers → WsprMessage
 messageResult numbers = record { refusal = numbers .number; place = numbers .place; power = numbers .power }
+
+unfoldable pub repairedResult : RepairNumbers → WsprRepaired
+repairedResult numbers =
+    let n = numbers .nearest in
+    record {
+      refusal = numbers .number;
+      place = numbers .place;
+      word = n .word;
+      disagreements = n .disagreements;
+      live = n .live;
+      «sync_wrong» = n .«sync_wrong»;
+    }
 
 unfoldable pub readingResult : ReadingNumbers → U4bReading
 readingResult numbers =
@@ -49,6 +67,15 @@ readingResult numbers =
       speed = r .speed;
       gps = r .gps;
     }
+
+-- ---- The result of a repair as the layer's answer
+
+-- A word where the refusal number is 0.
+abbrev pub answerIn : WsprRepaired → Repaired
+answerIn r =
+    cond (eqb (r .refusal) 0)
+    (Repaired.Word (record { word = r .word; disagreements = r .disagreements; live = r .live; «sync_wrong» = r .«sync_wrong» }))
+    (Repaired.Refused (refusal (r .refusal) (r .place)))
 
 -- ---- The arguments and results of telemetry as the layer's records
 

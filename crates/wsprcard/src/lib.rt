@@ -3,13 +3,16 @@
 ghost use mathlib.Core.Path.{_≡_};
 ghost use Rattle.message.specs.Answer.{packed, unpacked, callsignAfter, locatorAfter, packedNumbers, givenNumbers, wordGiven, wordRefused};
 ghost use Rattle.frame.specs.Answer.{wordWritten, messageWritten, frameAfterWord, frameAfterMessage, wordRead, messageRead, callsignRead, locatorRead, readNumbers};
+ghost use Rattle.repair.specs.Answer.{repaired, repairNumbers};
+ghost use Rattle.repair.specs.Demand.{AsChecked, AsDemanded, TwoFlipsRepaired};
 ghost use Rattle.telemetry.specs.Answer.{written, decoded, decodedNumbers, callsignWritten, locatorWritten};
-ghost use Rattle.wsprcard.specs.Results.{writtenResult, wordResult, messageResult, readingResult, measuredFrom, PackedReadsBack, MessagePacksBack, UnpackRefusedExactly, FrameReadsAsWord, FrameReadsAsMessage, WordWritesFrame, FrameRefusedExactly, NoWordExactly, MessageWritesFrame, MessageFrameRefusedExactly, TelemetryReadsBack, TelemetryWritesBack, TelemetryRefusedExactly};
+ghost use Rattle.wsprcard.specs.Results.{writtenResult, wordResult, messageResult, repairedResult, answerIn, readingResult, measuredFrom, PackedReadsBack, MessagePacksBack, UnpackRefusedExactly, FrameReadsAsWord, FrameReadsAsMessage, WordWritesFrame, FrameRefusedExactly, NoWordExactly, MessageWritesFrame, MessageFrameRefusedExactly, TelemetryReadsBack, TelemetryWritesBack, TelemetryRefusedExactly};
 use frame::Read;
 use frame::Written;
 use message::Given;
 use message::Packed;
 use refusal::Refusal;
+use repair::Repaired;
 use telemetry::Decoded;
 use telemetry::Measured;
 
@@ -34,6 +37,18 @@ pub struct WsprMessage {
     pub refusal: u32,
     pub place: u32,
     pub power: u32,
+}
+
+// Refusal number (0: success), place, and the nearest word with its disagreements, the live count and
+// the number of wrong sync bits.
+#[repr(C)]
+pub struct WsprRepaired {
+    pub refusal: u32,
+    pub place: u32,
+    pub word: u64,
+    pub disagreements: u32,
+    pub live: u32,
+    pub sync_wrong: u32,
 }
 
 // Refusal number (0: success), place, and the readings of a telemetry message.
@@ -104,6 +119,30 @@ fn message_result(answer: Given) -> WsprMessage
             refusal: refusal.number,
             place: refusal.place,
             power: 0,
+        },
+    }
+}
+
+// The result of a repair.
+fn repaired_result(answer: Repaired) -> WsprRepaired
+    ensures { λ r. ⌜ r ≡ repairedResult (repairNumbers answer) ⌝ }
+{
+    match answer {
+        Repaired::Word(nearest) => WsprRepaired {
+            refusal: 0,
+            place: 0,
+            word: nearest.word,
+            disagreements: nearest.disagreements,
+            live: nearest.live,
+            sync_wrong: nearest.sync_wrong,
+        },
+        Repaired::Refused(refusal) => WsprRepaired {
+            refusal: refusal.number,
+            place: refusal.place,
+            word: 0,
+            disagreements: 0,
+            live: 0,
+            sync_wrong: 0,
         },
     }
 }
@@ -219,6 +258,17 @@ pub extern "C" fn wspr_read_message(
     ensures refuses_exactly { λ r. ⌜ MessageFrameRefusedExactly r (now (frame .entry)) (now (callsign .entry)) (now (locator .entry)) ⌝ }
 {
     message_result(frame::read_message(frame, callsign, locator))
+}
+
+// The one word that is nearest to the symbols of a frame.
+#[no_mangle]
+pub extern "C" fn wspr_repair(frame: &[u8], limit: u32, budget: u32) -> WsprRepaired
+    ensures answer { λ r. ⌜ r ≡ repairedResult (repairNumbers (repaired (now (frame .entry)) limit budget)) ⌝ }
+    ensures checked { λ r. ⌜ AsChecked (now (frame .entry)) limit budget (answerIn r) ⌝ }
+    ensures demanded { λ r. ⌜ AsDemanded (now (frame .entry)) limit budget (answerIn r) ⌝ }
+    ensures two_flips { λ r. ⌜ TwoFlipsRepaired (now (frame .entry)) limit budget (answerIn r) ⌝ }
+{
+    repaired_result(repair::repair(frame, limit, budget))
 }
 
 // The message of what was measured: its callsign and locator are written, its power is returned.

@@ -3,28 +3,22 @@ use mathlib.Core.Path.{sym}
 use Rattle.repair.proofs.FoundLaws.{answer-over, answer-none, answer-shared, answer-word}
 use Rattle.repair.proofs.answer.Statement.{statement}
 use Rattle.repair.proofs.answer.Tie as tie
-use Rattle.repair.proofs.answer.Reads as reads
-use Rattle.repair.proofs.answer.Lts as lts
 
--- src/lib.rt:54:9
 returns : tie.Need-returns
 returns c =
     let a = c .before .before .args in
     sym (answer-over (a .found) (a .sync-wrong) (a .limit) (a .budget) (c .if1 .taken))
 
--- src/lib.rt:61:9
 returns-2 : tie.Need-returns-2
 returns-2 c =
     let a = c .before .before .before .before .before .args in
     sym (answer-none (a .found) (a .sync-wrong) (a .limit) (a .budget) (omega arith) (c .if2 .taken))
 
--- src/lib.rt:67:9
 returns-3 : tie.Need-returns-3
 returns-3 c =
     let a = c .before .before .before .before .before .before .before .args in
     sym (answer-shared (a .found) (a .sync-wrong) (a .limit) (a .budget) (omega arith) (omega arith) (c .if3 .taken))
 
--- src/lib.rt:50:1
 returns-4 : tie.Need-returns-4
 returns-4 c =
     let a = c .before .before .before .before .before .before .before .args in

@@ -6,26 +6,20 @@ use Rattle.repair.proofs.AnswerLaws.{no-bad-bound}
 use Rattle.repair.proofs.CheckLaws.{bad-limit-first, bad-budget-next}
 use Rattle.repair.proofs.first_bad_bound.Statement.{statement}
 use Rattle.repair.proofs.first_bad_bound.Tie as tie
-use Rattle.repair.proofs.first_bad_bound.Reads as reads
-use Rattle.repair.proofs.first_bad_bound.Lts as lts
 
--- src/lib.rt:41:9
 returns : tie.Need-returns
 returns c = sym (bad-limit-first (c .before .args .limit) (c .before .args .budget) (c .if1 .taken))
 
--- src/lib.rt:44:9
 returns-2 : tie.Need-returns-2
 returns-2 c =
     let a = c .before .before .args in
     sym (bad-budget-next (a .limit) (a .budget) (c .before .if1 .left) (inl (omega arith)))
 
--- src/lib.rt:37:1
 returns-3 : tie.Need-returns-3
 returns-3 c =
     let a = c .before .before .before .args in
     sym (bad-budget-next (a .limit) (a .budget) (c .before .before .if1 .left) (inr (c .if3 .taken)))
 
--- src/lib.rt:37:1
 returns-4 : tie.Need-returns-4
 returns-4 c =
     let a = c .before .before .before .args in

@@ -12,16 +12,7 @@ use Rattle.repair.proofs.Promises.{promised}
 use borrow.Author.Needs.{needs}
 use Rattle.repair.proofs.repair.Statement.{statement}
 use Rattle.repair.proofs.repair.Tie as tie
-use Rattle.repair.proofs.repair.Reads as reads
-use Rattle.repair.proofs.repair.Lts as lts
-use Rattle.frame.proofs.symbols.first_large.Reads as first-large-reads
-use Rattle.frame.proofs.symbols.received_bits.Reads as received-bits-reads
-use Rattle.repair.proofs.answer.Reads as answer-reads
-use Rattle.repair.proofs.first_bad_bound.Reads as first-bad-bound-reads
-use Rattle.repair.proofs.search.search.Reads as search-reads
-use Rattle.repair.proofs.sync.wrong_sync.Reads as wrong-sync-reads
 
--- src/lib.rt:89:9
 returns : tie.Need-returns
 returns c =
     let a = c .before .before .args in
@@ -40,11 +31,9 @@ right c =
     let e = c .before .before .before .before in
     symbols-of-test (e .before .before .args .frame .now) (e .if1 .left) (rw (c .before .first-large .ensures) at (c .if3 .left))
 
--- src/lib.rt:94:9
 first-bad-bound-requires : tie.Need-first-bad-bound-requires
 first-bad-bound-requires c κs = search needs
 
--- src/lib.rt:96:9
 returns-2 : tie.Need-returns-2
 returns-2 c =
     let a = c .before .before .before .before .args in
@@ -52,15 +41,12 @@ returns-2 c =
     (rw (c .before .first-bad-bound .ensures)
     (repaired-bound (a .frame .now) (a .limit) (a .budget) (c .before .before .if1 .left) (rw (c .before .first-bad-bound .ensures) at (c .if2 .taken))))
 
--- src/lib.rt:101:9
 first-large-requires : tie.Need-first-large-requires
 first-large-requires c κs = search needs
 
--- src/lib.rt:105:20
 cast-t12 : tie.Need-cast-t12
 cast-t12 c = search needs
 
--- src/lib.rt:103:9
 returns-3 : tie.Need-returns-3
 returns-3 c =
     let a = c .before .before .before .before .before .before .args in
@@ -69,11 +55,9 @@ returns-3 c =
     (repaired-large (a .frame .now) (a .limit) (a .budget) (c .before .before .before .before .if1 .left) (none-bad (c .before .before))
     (rw (c .before .first-large .ensures) at (c .if3 .taken))))
 
--- src/lib.rt:108:20
 received-bits-requires : tie.Need-received-bits-requires
 received-bits-requires c κs = search needs
 
--- src/lib.rt:109:9
 search-requires : tie.Need-search-requires
 search-requires c κs =
     let s = c .before .before in
@@ -81,15 +65,12 @@ search-requires c κs =
     let within = bounds (s .before .before) in
     (rw (c .before .received-bits .ensures) (received-bits (a .frame .now) (right s)), (within .limit-to-12, within .budget-to-65536))
 
--- src/lib.rt:110:19
 wrong-sync-requires : tie.Need-wrong-sync-requires
 wrong-sync-requires c κs = search needs
 
--- src/lib.rt:110:5
 answer-requires : tie.Need-answer-requires
 answer-requires c κs = search needs
 
--- src/lib.rt:82:1
 returns-4 : tie.Need-returns-4
 returns-4 c =
     let found = c .before .before in

@@ -2,22 +2,17 @@ use mathlib.Core.Path.{sym}
 use Rattle.repair.proofs.BestLaws.{nearer-nearest, nearer-next, nearer-neither}
 use Rattle.repair.proofs.best.nearer.Statement.{statement}
 use Rattle.repair.proofs.best.nearer.Tie as tie
-use Rattle.repair.proofs.best.nearer.Reads as reads
-use Rattle.repair.proofs.best.nearer.Lts as lts
 
--- src/best.rt:26:1
 returns : tie.Need-returns
 returns c =
     let a = c .before .before .args in
     sym (nearer-nearest (a .best) (a .word) (a .disagreements) (c .if1 .taken))
 
--- src/best.rt:26:1
 returns-2 : tie.Need-returns-2
 returns-2 c =
     let a = c .before .before .before .before .args in
     sym (nearer-next (a .best) (a .word) (a .disagreements) (c .before .before .if1 .left) (c .if2 .taken))
 
--- src/best.rt:26:1
 returns-3 : tie.Need-returns-3
 returns-3 c =
     let a = c .before .before .before .before .args in

@@ -3,18 +3,13 @@ use Rattle.repair.specs.Search.{noneFound}
 use borrow.Author.Needs.{needs}
 use Rattle.repair.proofs.best.none_found.Statement.{statement}
 use Rattle.repair.proofs.best.none_found.Tie as tie
-use Rattle.repair.proofs.best.none_found.Reads as reads
-use Rattle.repair.proofs.best.none_found.Lts as lts
 
--- src/best.rt:20:17
 add-t2 : tie.Need-add-t2
 add-t2 c = search needs
 
--- src/best.rt:21:15
 add-t3 : tie.Need-add-t3
 add-t3 c = search needs
 
--- src/best.rt:14:1
 returns : tie.Need-returns
 unfolding noneFound
 returns c = refl

@@ -9,17 +9,6 @@ use Rattle.distance.proofs.StepLaws.{branches-most, last-below, branchCost-most
 use Rattle.repair.proofs.Walk.{Walking, walk-starts, walk-over, walk-down, walk-word, walk-past, walk-up, walk-ends, cost-most, number-in, up-most, up-distance}
 use Rattle.repair.proofs.search.search.Statement.{statement}
 use Rattle.repair.proofs.search.search.Tie as tie
-use Rattle.repair.proofs.search.search.Reads as reads
-use Rattle.repair.proofs.search.search.Lts as lts
-use Rattle.repair.proofs.best.nearer.Reads as nearer-reads
-use Rattle.repair.proofs.best.none_found.Reads as none-found-reads
-use Rattle.repair.proofs.cost.branch_cost.Reads as branch-cost-reads
-use Rattle.repair.proofs.cost.root_costs.Reads as root-costs-reads
-use Rattle.repair.proofs.cost.zero_cost.Reads as zero-cost-reads
-use Rattle.repair.proofs.prefix.branches.Reads as branches-reads
-use Rattle.repair.proofs.prefix.child.Reads as child-reads
-use Rattle.repair.proofs.prefix.last_branch.Reads as last-branch-reads
-use Rattle.repair.proofs.prefix.parent.Reads as parent-reads
 
 -- What is left to do: a live prefix is counted, a branch is passed, or a shorter prefix is gone back to.
 abbrev left : ℕ → ℕ → ℕ → ℕ → ℕ
@@ -46,42 +35,33 @@ abbrev μ-depths : tie.MeasureT-depths
 μ-depths received limit budget costs₀ best₀ live₀ depth₀ number₀ distance₀ branch₀ costs best live depth number distance branch =
     left budget live depth branch
 
--- src/search.rt:22:21
 root-costs-requires : tie.Need-root-costs-requires Inv-loop μ-loop Inv-depths μ-depths
 root-costs-requires c κs = search needs
 
--- src/search.rt:23:9
 none-found-requires : tie.Need-none-found-requires Inv-loop μ-loop Inv-depths μ-depths
 none-found-requires c κs = search needs
 
--- src/search.rt:29:5
 depths-holds : tie.Need-depths-holds Inv-loop μ-loop Inv-depths μ-depths
 depths-holds c =
     let a = c .before .before in
     rw (c .before .root-costs .ensures, c .none-found .ensures)
     (walk-starts (replicate 81 0) (zeroCost (a .args .received .now) 0 0) (a .pre .0) (length-replicate {A = ℕ} 81 0) refl)
 
--- src/search.rt:30:9
 loop-holds : tie.Need-loop-holds Inv-loop μ-loop Inv-depths μ-depths
 loop-holds c = (c .depths .inv, omega arith)
 
--- src/search.rt:30:24
 branches-requires : tie.Need-branches-requires Inv-loop μ-loop Inv-depths μ-depths
 branches-requires c κs = search needs
 
--- src/search.rt:31:53
 mul-branch-cost : tie.Need-mul-branch-cost Inv-loop μ-loop Inv-depths μ-depths
 mul-branch-cost c = search needs
 
--- src/search.rt:31:53
 array-read-branch-cost : tie.Need-array-read-branch-cost Inv-loop μ-loop Inv-depths μ-depths
 array-read-branch-cost c = search needs
 
--- src/search.rt:31:35
 branch-cost-requires : tie.Need-branch-cost-requires Inv-loop μ-loop Inv-depths μ-depths
 branch-cost-requires c κs = cost-most (c .before .before .loop .inv .0)
 
--- src/search.rt:31:24
 -- A branch is taken: which it may be, and what it adds.
 few : (c : tie.Then1 Inv-loop μ-loop Inv-depths μ-depths) → c .before .before .loop .branch < branchesOf (c .before .before .loop .depth)
 few c = rw (c .before .branches .ensures) at (c .if1 .taken)
@@ -100,39 +80,31 @@ add-next c =
     let l = c .before .before .before in
     omega (arith, cost-adds c, l .loop .inv .0 .near, l .before .before .before .before .pre .1 .0)
 
--- src/search.rt:33:17
 add-live : tie.Need-add-live Inv-loop μ-loop Inv-depths μ-depths
 add-live c = search needs
 
--- src/search.rt:38:21
 child-requires : tie.Need-child-requires Inv-loop μ-loop Inv-depths μ-depths
 child-requires c κs =
     let n = c .before .before .before .before in
     let l = n .before .before in
     (number-in (l .loop .inv .0), omega (arith, few n, branches-most (l .loop .depth)))
 
--- src/search.rt:41:21
 add-depth : tie.Need-add-depth Inv-loop μ-loop Inv-depths μ-depths
 add-depth c = search needs
 
--- src/search.rt:42:36
 zero-cost-requires : tie.Need-zero-cost-requires Inv-loop μ-loop Inv-depths μ-depths
 zero-cost-requires c κs = search needs
 
--- src/search.rt:42:21
 mul-costs : tie.Need-mul-costs Inv-loop μ-loop Inv-depths μ-depths
 mul-costs c = search needs
 
--- src/search.rt:42:21
 array-write-costs : tie.Need-array-write-costs Inv-loop μ-loop Inv-depths μ-depths
 array-write-costs c = search needs
 
--- src/search.rt:29:5
 depths-less : tie.Need-depths-less Inv-loop μ-loop Inv-depths μ-depths
 depths-less c =
     omega arith
 
--- src/search.rt:29:5
 depths-again : tie.Need-depths-again Inv-loop μ-loop Inv-depths μ-depths
 depths-again c =
     let n = c .before .before .before .before .before in
@@ -143,15 +115,12 @@ depths-again c =
     (c .before .before .before .before .if2 .taken) (c .before .before .before .if3 .left) (c .before .before .if4 .taken)
     (rw is-child at (c .zero-cost .ensures)))
 
--- src/search.rt:45:17
 nearer-requires : tie.Need-nearer-requires Inv-loop μ-loop Inv-depths μ-depths
 nearer-requires c κs = search needs
 
--- src/search.rt:47:13
 add-branch : tie.Need-add-branch Inv-loop μ-loop Inv-depths μ-depths
 add-branch c = omega (arith, few (c .before .before), branches-most (c .before .before .before .before .loop .depth))
 
--- src/search.rt:30:9
 -- Past a word within the limit, or past a branch that isn't live.
 passed : (c : tie.Joined2 Inv-loop μ-loop Inv-depths μ-depths)
     → let l = c .before .before .before .before in
@@ -172,33 +141,26 @@ grows c = ⊎-elim (λ v. omega (arith, v .5)) (λ v. omega (arith, v .2)) (c .i
 loop-less : tie.Need-loop-less Inv-loop μ-loop Inv-depths μ-depths
 loop-less c = omega (arith, grows c, few (c .before .before), branches-most (c .before .before .before .before .loop .depth))
 
--- src/search.rt:30:9
 loop-again : tie.Need-loop-again Inv-loop μ-loop Inv-depths μ-depths
 loop-again c =
     let l = c .before .before .before .before in
     (passed c, omega (arith, l .loop .inv .1, grows c, few (c .before .before), branches-most (l .loop .depth)))
 
--- src/search.rt:52:9
 sub-depth : tie.Need-sub-depth Inv-loop μ-loop Inv-depths μ-depths
 sub-depth c = search needs
 
--- src/search.rt:53:9
 last-branch-requires : tie.Need-last-branch-requires Inv-loop μ-loop Inv-depths μ-depths
 last-branch-requires c κs = search needs
 
--- src/search.rt:54:9
 parent-requires : tie.Need-parent-requires Inv-loop μ-loop Inv-depths μ-depths
 parent-requires c κs = search needs
 
--- src/search.rt:55:39
 mul-branch-cost-2 : tie.Need-mul-branch-cost-2 Inv-loop μ-loop Inv-depths μ-depths
 mul-branch-cost-2 c = search needs
 
--- src/search.rt:55:39
 array-read-branch-cost-2 : tie.Need-array-read-branch-cost-2 Inv-loop μ-loop Inv-depths μ-depths
 array-read-branch-cost-2 c = search needs
 
--- src/search.rt:55:21
 -- Back up: all branches are taken, and the prefix has a last one.
 all-taken : (c : tie.Else1 Inv-loop μ-loop Inv-depths μ-depths) → branchesOf (c .before .before .loop .depth) ≤ c .before .before .loop .branch
 all-taken c = rw (c .before .branches .ensures) at (c .if1 .left)
@@ -218,7 +180,6 @@ branch-cost-requires-2 c κs =
     let l = e .before .before in
     up-most (l .loop .inv .0) (l .loop .depth - 1) (longer-than-none (c .before)) (all-taken e)
 
--- src/search.rt:55:9
 sub-distance : tie.Need-sub-distance Inv-loop μ-loop Inv-depths μ-depths
 sub-distance c =
     let e = c .before .before .before .before in
@@ -226,17 +187,14 @@ sub-distance c =
     rw (c .branch-cost2 .ensures, c .before .before .last-branch .ensures)
     (omega (arith, up-distance (l .loop .inv .0) (l .loop .depth - 1) (longer-than-none (c .before .before)) (all-taken e)))
 
--- src/search.rt:56:9
 add-branch-2 : tie.Need-add-branch-2 Inv-loop μ-loop Inv-depths μ-depths
 add-branch-2 c = omega (arith, last-taken (c .before .before))
 
--- src/search.rt:29:5
 depths-less-2 : tie.Need-depths-less-2 Inv-loop μ-loop Inv-depths μ-depths
 depths-less-2 c =
     let l = c .before .before .before .before .before .before in
     falls _ (l .loop .depth) _ (l .loop .branch) _ (omega (arith, longer-than-none (c .before .before))) (l .loop .inv .1)
 
--- src/search.rt:29:5
 depths-again-2 : tie.Need-depths-again-2 Inv-loop μ-loop Inv-depths μ-depths
 depths-again-2 c =
     let e = c .before .before .before .before in
@@ -244,7 +202,6 @@ depths-again-2 c =
     rw (c .before .parent .ensures, c .branch-cost2 .ensures, c .before .before .last-branch .ensures)
     (walk-up (l .loop .inv .0) (l .loop .depth - 1) (longer-than-none (c .before .before)) (all-taken e))
 
--- src/search.rt:16:1
 returns : tie.Need-returns Inv-loop μ-loop Inv-depths μ-depths
 returns c =
     let n = c .before .before in
@@ -255,7 +212,6 @@ returns c =
       best-of-all = λ within. absurd (omega (arith, c .if3 .taken));
     }
 
--- src/search.rt:16:1
 returns-2 : tie.Need-returns-2 Inv-loop μ-loop Inv-depths μ-depths
 returns-2 c = walk-ends (c .before .before .before .loop .inv .0) (c .if5 .taken) (all-taken (c .before))
 

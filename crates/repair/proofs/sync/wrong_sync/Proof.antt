@@ -15,9 +15,6 @@ use Rattle.frame.proofs.SymbolLaws.{getD-sync}
 use Rattle.repair.specs.Answer.{wrongSyncIn}
 use Rattle.repair.proofs.sync.wrong_sync.Statement.{statement}
 use Rattle.repair.proofs.sync.wrong_sync.Tie as tie
-use Rattle.repair.proofs.sync.wrong_sync.Reads as reads
-use Rattle.repair.proofs.sync.wrong_sync.Lts as lts
-use Rattle.frame.proofs.sync.sync_vector.Reads as sync-vector-reads
 
 abbrev unsynced : List ℕ → ℕ → Bool
 unsynced frame place = not (synced place (getD frame place 0))
@@ -32,35 +29,27 @@ abbrev μ-loop : tie.MeasureT-loop
 sync-read : (l : tie.At-loop Inv-loop μ-loop) → getD (l .before .sync-vector .result) (l .loop .place) 0 ≡ syncAt (l .loop .place)
 sync-read l = ap (λ (table : List ℕ). getD table (l .loop .place) 0) (l .before .sync-vector .ensures) ∙ getD-sync (l .loop .place)
 
--- src/sync.rt:12:16
 sync-vector-requires : tie.Need-sync-vector-requires Inv-loop μ-loop
 sync-vector-requires c κs = search needs
 
--- src/sync.rt:15:5
 loop-holds : tie.Need-loop-holds Inv-loop μ-loop
 loop-holds c = (omega arith, (omega arith, sym (count-none 0 (unsynced (c .before .before .args .frame .now)) (λ i h. absurd (omega arith)))))
 
--- src/sync.rt:16:12
 shared-slice-read-if1 : tie.Need-shared-slice-read-if1 Inv-loop μ-loop
 shared-slice-read-if1 c = search needs
 
--- src/sync.rt:16:32
 array-read-if1 : tie.Need-array-read-if1 Inv-loop μ-loop
 array-read-if1 c = search needs
 
--- src/sync.rt:17:13
 add-wrong : tie.Need-add-wrong Inv-loop μ-loop
 add-wrong c = omega arith
 
--- src/sync.rt:19:9
 add-place : tie.Need-add-place Inv-loop μ-loop
 add-place c = search needs
 
--- src/sync.rt:15:5
 loop-less : tie.Need-loop-less Inv-loop μ-loop
 loop-less c = search needs
 
--- src/sync.rt:15:5
 loop-again : tie.Need-loop-again Inv-loop μ-loop
 loop-again c =
     let l = c .before .before .before in
@@ -75,7 +64,6 @@ loop-again c =
     (omega arith, (omega (arith, v .1), v .1 ∙ counted ∙ sym (count-kept (l .loop .place) (unsynced frame) (ap not right)))))
     (c .if1 .came)
 
--- src/sync.rt:8:1
 returns : tie.Need-returns Inv-loop μ-loop
 unfolding wrongSyncIn
 returns c =
