@@ -1,16 +1,16 @@
 -- How many live prefixes a search has passed that goes through the prefixes depth first, in the order of their words. It stands at a prefix
 -- of some depth, whose first word is `first`, and `next` is the first of the words that it has not passed. Of the prefixes that aren't
 -- longer it has passed those up to the one it stands at, and of the longer ones those whose words it has passed.
-use mathlib.Core.Path.{_≡_, refl, sym, ap, _∙_}
+use mathlib.Core.Path.{_≡_, sym, ap, _∙_}
 use Prim.Native.Nat.{ℕ, _+_, _*_, _/_, _^_, _≤_, _<_}
-use native.Mathlib.Nat.{add-div-right, add-mul-div-right, div-one, zero-div, mul-lt-mul-of-pos-right}
+use native.Mathlib.Nat.{add-div-right, add-mul-div-right, zero-div, mul-lt-mul-of-pos-right}
 use native.Mathlib.Omega.{arith}
-use mathlib.Core.Bool.{Bool, true, false, cond}
+use mathlib.Core.Bool.{Bool, false, cond}
 use mathlib.Core.List.{List}
 use lib.Dec.{leb}
 use borrow.Author.Tests.{le-leb, lt-leb}
 use Rattle.basics.specs.Below.{sumBelow, countBelow}
-use Rattle.basics.proofs.BelowLaws.{sum-same, sum-le, sum-zero, sum-raised, count-same, count-none, count-append, count-raised, count-up-to}
+use Rattle.basics.proofs.BelowLaws.{sum-same, sum-le, sum-zero, sum-raised, count-none, count-append, count-raised, count-up-to}
 use Rattle.basics.proofs.Choice.{below-or-not, equal-or-not}
 use Rattle.distance.specs.Prefixes.{prefixBits, prefixesOf, disagreements, isLive, liveOf, liveCount}
 use Rattle.distance.proofs.Spans.{span, span-positive, parts, parts-span, share-fewer, within-span, prefix-below, prefix-count, prefixes-most}

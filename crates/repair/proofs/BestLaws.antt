@@ -1,10 +1,10 @@
 -- The record of the nearest word so far: what it says before any word, with one word more, and with words that aren't within the limit.
-use mathlib.Core.Path.{_≡_, refl, sym}
+use mathlib.Core.Path.{_≡_}
 use Prim.Native.Nat.{ℕ, _+_, _≤_, _<_}
 use native.Mathlib.Omega.{arith}
 use mathlib.Core.List.{List}
 use borrow.Author.Tests.{lt-ltb, le-ltb}
-use Rattle.basics.proofs.Choice.{below-or-not, equal-or-not}
+use Rattle.basics.proofs.Choice.{below-or-not}
 use Rattle.distance.specs.Prefixes.{wordDisagreements}
 use Rattle.repair.specs.Search.{noneFound, nearerOf, BestBelow}
 use Rattle.repair.specs.declared.best.Best.{Best}
@@ -52,14 +52,14 @@ module _ (received : List ℕ) (limit : ℕ) where
         next-most = b .next-most;
         fewest-least =
             λ word k.
-                below-or-not word bound
-                (b .fewest-least word)
-                (λ later. omega (arith, b .in-order, b .next-most, far word later k));
+            below-or-not word bound
+            (b .fewest-least word)
+            (λ later. omega (arith, b .in-order, b .next-most, far word later k));
         next-least =
             λ word k other.
-                below-or-not word bound
-                (λ earlier. b .next-least word earlier other)
-                (λ later. omega (arith, b .next-most, far word later k));
+            below-or-not word bound
+            (λ earlier. b .next-least word earlier other)
+            (λ later. omega (arith, b .next-most, far word later k));
         fewest-found = λ k. let found = b .fewest-found k in (omega (arith, found .0), found .1);
         next-found = λ k. let found = b .next-found k in (found .0, (omega (arith, found .1 .0), found .1 .1));
       }
@@ -95,8 +95,8 @@ module _ (received : List ℕ) (limit : ℕ) where
               fewest-found = λ h. (omega arith, its);
               next-found =
                   λ h.
-                      let found = b .fewest-found h in
-                      (best .word, (omega (arith, found .0), ((λ same. absurd (omega (arith, found .0))), found .1)));
+                  let found = b .fewest-found h in
+                  (best .word, (omega (arith, found .0), ((λ same. absurd (omega (arith, found .0))), found .1)));
             }
 
         second : best .fewest ≤ distance → distance < best .next
@@ -108,9 +108,9 @@ module _ (received : List ℕ) (limit : ℕ) where
               fewest-least = one-more (best .fewest) (b .fewest-least) no-less;
               next-least =
                   λ word h other.
-                      below-or-not word bound
-                      (λ before. omega (arith, b .next-least word before other))
-                      (λ later. let same : word ≡ bound = omega arith in rw (same, its) (omega arith));
+                  below-or-not word bound
+                  (λ before. omega (arith, b .next-least word before other))
+                  (λ later. let same : word ≡ bound = omega arith in rw (same, its) (omega arith));
               fewest-found = λ h. let found = b .fewest-found h in (omega (arith, found .0), found .1);
               next-found =
                   λ h. (bound, (omega arith, ((λ same. absurd (omega (arith, found-before (omega arith)))), its)));
@@ -124,9 +124,9 @@ module _ (received : List ℕ) (limit : ℕ) where
               fewest-least = one-more (best .fewest) (b .fewest-least) no-less;
               next-least =
                   λ word h other.
-                      below-or-not word bound
-                      (λ before. b .next-least word before other)
-                      (λ later. let same : word ≡ bound = omega arith in rw (same, its) neither);
+                  below-or-not word bound
+                  (λ before. b .next-least word before other)
+                  (λ later. let same : word ≡ bound = omega arith in rw (same, its) neither);
               fewest-found = λ h. let found = b .fewest-found h in (omega (arith, found .0), found .1);
               next-found = λ h. let found = b .next-found h in (found .0, (omega (arith, found .1 .0), found .1 .1));
             }

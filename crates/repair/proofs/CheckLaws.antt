@@ -1,15 +1,14 @@
 -- What repair refuses before it searches: 1, 15 and 7, each exactly when it applies and none before it does.
-use mathlib.Core.Path.{_≡_, refl, sym, ap, _∙_}
-use mathlib.Core.Logic.{_↔_, _⊎_, inl, inr, ⊎-elim}
+use mathlib.Core.Path.{_≡_, ap, _∙_}
+use mathlib.Core.Logic.{_⊎_, inl, inr, ⊎-elim}
 use Prim.Native.Nat.{ℕ, _≤_, _<_}
 use native.Mathlib.Omega.{arith}
-use mathlib.Core.Bool.{not}
 use mathlib.Core.List.{List}
-use lib.ListN.{length, getD}
+use lib.ListN.{length}
 use borrow.Author.Tests.{eq-eqb, ne-eqb, lt-ltb, le-ltb, le-leb, lt-leb, leb-true, leb-false}
 use Rattle.basics.specs.Lists.{firstFailing}
-use Rattle.basics.proofs.Choice.{between-true, between-below, between-above, below-or-not, equal-or-not}
-use Rattle.basics.proofs.ListLaws.{firstFailing-end, fails-at, passes-before-first}
+use Rattle.basics.proofs.Choice.{between-below, between-above, below-or-not, equal-or-not}
+use Rattle.basics.proofs.ListLaws.{fails-at, passes-before-first}
 use Rattle.refusal.specs.declared.Refusal.{Refusal}
 use Rattle.refusal.specs.Refusals.{refusal, wrongLength, symbolTooLarge, badBound}
 use Rattle.frame.specs.Symbols.{RightSymbols}

@@ -1,10 +1,10 @@
 -- What is searched are bits, and the answer that a search gives is the one defined, whatever the search went through.
-use mathlib.Core.Path.{_≡_, refl, sym, ap, _∙_}
+use mathlib.Core.Path.{_≡_, sym, _∙_}
 use Prim.Native.Nat.{ℕ, _^_, _≤_, _<_}
 use native.Mathlib.Omega.{arith}
 use mathlib.Core.List.{List}
 use borrow.Author.Tests.{lt-ltb, le-ltb, le-leb, lt-leb}
-use Rattle.basics.proofs.Choice.{below-or-not, equal-or-not}
+use Rattle.basics.proofs.Choice.{below-or-not}
 use Rattle.refusal.specs.Refusals.{refusal, overBudget, noneWithinLimit, sharedFewest}
 use Rattle.interleaver.specs.Places.{placeOf}
 use Rattle.interleaver.proofs.PlaceLaws.{placeOf-below}
@@ -28,7 +28,7 @@ received-bits frame right =
       long = length-receivedBits frame;
       are-bits =
           λ index h.
-              omega (arith, getD-receivedBits frame index h, right .symbols-to-3 (placeOf index) (placeOf-below index h));
+          omega (arith, getD-receivedBits frame index h, right .symbols-to-3 (placeOf index) (placeOf-below index h));
     }
 
 -- ---- The cases of the answer

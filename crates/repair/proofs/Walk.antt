@@ -1,6 +1,6 @@
 -- The search of repair: what holds whenever it stands at a prefix and is to take a branch of it, and how each of its moves keeps that. The
 -- moves know of the cost of a branch only that it takes a prefix's disagreements to those of the longer one.
-use mathlib.Core.Path.{_≡_, refl, sym, ap, ap₂, _∙_, subst}
+use mathlib.Core.Path.{_≡_, sym, ap, ap₂, _∙_, subst}
 use Prim.Native.Nat.{ℕ, _+_, _-_, _*_, _/_, _^_, _≤_, _<_}
 use native.Mathlib.Nat.{zero-mul, zero-div, div-one}
 use native.Mathlib.Omega.{arith}
@@ -11,12 +11,11 @@ use Rattle.basics.proofs.Choice.{equal-or-not}
 use Rattle.distance.specs.Prefixes.{prefixBits, prefixesOf, disagreements, wordDisagreements, liveCount}
 use Rattle.distance.specs.Steps.{branchesOf, childOf, parentOf, lastBranch, zeroCost, branchCost}
 use Rattle.distance.proofs.Bits.{AllBits, bits-each}
-use Rattle.distance.proofs.Spans.{span, span-positive, span-tail, span-within, span-root, prefixes-root, prefixes-positive, prefixes-all, share-fewer, within-span, first-of-span, prefix-below, child-span, nextWord, next-none, next-more, next-all, next-prefix, next-child, next-below, parent-span, parent-begins}
+use Rattle.distance.proofs.Spans.{span, span-tail, span-within, span-root, prefixes-root, prefixes-positive, prefixes-all, share-fewer, within-span, first-of-span, child-span, nextWord, next-none, next-more, next-all, next-prefix, next-child, next-below, parent-span, parent-begins}
 use Rattle.distance.proofs.Passed.{passedLive, live-enter, live-whole, live-leave, words-dead, live-pass, live-starts, live-ends, live-most}
 use Rattle.distance.proofs.StepLaws.{branches-later, child-below, parent-below, last-below, child-parent, prefix-empty, zeroCost-most, disagreements-branch}
 use Rattle.repair.specs.Search.{noneFound, nearerOf, BestBelow, Received, Searched}
 use Rattle.repair.specs.declared.best.Best.{Best}
-use Rattle.repair.specs.declared.search.Found.{Found}
 use Rattle.repair.proofs.BestLaws.{best-starts, best-passes, best-takes}
 
 -- Standing at a prefix, with its branches before `branch` passed.
@@ -62,8 +61,8 @@ module _ {received : List ℕ} {limit budget : ℕ} where
         room = length-set costs 0 cost ∙ room;
         costs-are =
             λ j h.
-                let at-0 : j ≡ 0 = omega arith in
-                rw (at-0, zero-first, zero-div (span 0)) (getD-set-same costs 0 cost 0 (omega arith) ∙ e);
+            let at-0 : j ≡ 0 = omega arith in
+            rw (at-0, zero-first, zero-div (span 0)) (getD-set-same costs 0 cost 0 (omega arith) ∙ e);
       }
 
   module _ {costs : List ℕ} {best : Best} {live depth number distance branch : ℕ}
@@ -135,12 +134,12 @@ module _ {received : List ℕ} {limit budget : ℕ} where
             room = length-set costs (depth + 1) cost ∙ w .room;
             costs-are =
                 λ j k.
-                    equal-or-not j (depth + 1)
-                    (λ here.
-                    rw (here, first-of-span (depth + 1) child) (getD-set-same costs (depth + 1) cost 0 (omega (arith, w .room)) ∙ is-cost))
-                    (λ earlier.
-                    rw (stands, share-fewer j depth next first (omega arith) with-first)
-                    (getD-set-other costs (depth + 1) j cost 0 (λ same. absurd (omega arith)) ∙ w .costs-are j (omega arith)));
+                equal-or-not j (depth + 1)
+                (λ here.
+                rw (here, first-of-span (depth + 1) child) (getD-set-same costs (depth + 1) cost 0 (omega (arith, w .room)) ∙ is-cost))
+                (λ earlier.
+                rw (stands, share-fewer j depth next first (omega arith) with-first)
+                (getD-set-other costs (depth + 1) j cost 0 (λ same. absurd (omega arith)) ∙ w .costs-are j (omega arith)));
           }
 
       -- ---- Past a live word
@@ -265,8 +264,8 @@ module _ {received : List ℕ} {limit budget : ℕ} where
             room = w .room;
             costs-are =
                 λ j h.
-                    rw (← share-fewer j d (number * span (d + 1)) (parent * span d) h with-parent)
-                    (rw e at (w .costs-are j (omega arith)));
+                rw (← share-fewer j d (number * span (d + 1)) (parent * span d) h with-parent)
+                (rw e at (w .costs-are j (omega arith)));
           }
 
     -- ---- End

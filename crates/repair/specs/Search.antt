@@ -9,7 +9,6 @@ use Rattle.refusal.specs.Refusals.{refusal, overBudget, noneWithinLimit, shared
 use Rattle.distance.specs.Prefixes.{wordDisagreements, liveCount}
 use Rattle.repair.specs.declared.best.Best.{Best}
 use Rattle.repair.specs.declared.search.Found.{Found}
-use Rattle.repair.specs.declared.Nearest.{Nearest}
 use Rattle.repair.specs.declared.Repaired.{Repaired}
 
 -- ---- The nearest word so far

@@ -15,7 +15,6 @@ use Rattle.frame.specs.Answer.{writtenRefusal}
 use Rattle.frame.specs.RoundTrip.{ReadsAsWord, WordWritesAs, NeverFromWord, RightForm, NoWord, ReadsAsMessage, MessageWritesAs, NeverFromMessage}
 use Rattle.frame.specs.declared.Written.{Written}
 use Rattle.repair.specs.Answer.{RepairNumbers}
-use Rattle.repair.specs.declared.Nearest.{Nearest}
 use Rattle.repair.specs.declared.Repaired.{Repaired}
 use Rattle.telemetry.specs.Answer.{decoded, ReadingNumbers}
 use Rattle.telemetry.specs.RoundTrip.{quantised, inTenths, WritesAs, NeverWritten}

@@ -1,3 +1,5 @@
+-- `repair::answer` meets its contract, case by case.
+-- Assumes nothing.
 use native.Mathlib.Omega.{arith}
 use mathlib.Core.Path.{sym}
 use Rattle.repair.proofs.FoundLaws.{answer-over, answer-none, answer-shared, answer-word}
@@ -7,22 +9,22 @@ use Rattle.repair.proofs.answer.Tie as tie
 returns : tie.Need-returns
 returns c =
     let a = c .before .before .args in
-    sym (answer-over (a .found) (a .sync-wrong) (a .limit) (a .budget) (c .if1 .taken))
+    sym (answer-over (a .found) (a .sync-wrong) (a .limit) (a .budget) (omega arith))
 
 returns-2 : tie.Need-returns-2
 returns-2 c =
     let a = c .before .before .before .before .before .args in
-    sym (answer-none (a .found) (a .sync-wrong) (a .limit) (a .budget) (omega arith) (c .if2 .taken))
+    sym (answer-none (a .found) (a .sync-wrong) (a .limit) (a .budget) (omega arith) (omega arith))
 
 returns-3 : tie.Need-returns-3
 returns-3 c =
     let a = c .before .before .before .before .before .before .before .args in
-    sym (answer-shared (a .found) (a .sync-wrong) (a .limit) (a .budget) (omega arith) (omega arith) (c .if3 .taken))
+    sym (answer-shared (a .found) (a .sync-wrong) (a .limit) (a .budget) (omega arith) (omega arith) (omega arith))
 
 returns-4 : tie.Need-returns-4
 returns-4 c =
     let a = c .before .before .before .before .before .before .before .args in
-    sym (answer-word (a .found) (a .sync-wrong) (a .limit) (a .budget) (omega arith) (omega arith) (c .if3 .left))
+    sym (answer-word (a .found) (a .sync-wrong) (a .limit) (a .budget) (omega arith) (omega arith) (omega arith))
 
 pub answer-spec : {M : Type 1} → statement M
 answer-spec = tie.close (tie.spec returns returns-2 returns-3 returns-4)

@@ -1,3 +1,5 @@
+-- `repair::first_bad_bound` meets its contract, case by case.
+-- Assumes nothing.
 use mathlib.Core.Path.{sym}
 use mathlib.Core.Logic.{inl, inr}
 use native.Mathlib.Omega.{arith}

@@ -1,7 +1,8 @@
-use mathlib.Core.Path.{_≡_, sym, ap, _∙_, subst}
-use native.Mathlib.Omega.{arith}
+-- `repair::repair` meets its contract: each refusal is that of the definition, and what a search found gives the answer defined.
+-- Assumes nothing.
+use mathlib.Core.Path.{sym, _∙_}
 use Prim.Native.Nat.{_≤_}
-use Rattle.frame.specs.Symbols.{RightSymbols, receivedBits}
+use Rattle.frame.specs.Symbols.{RightSymbols}
 use Rattle.frame.proofs.SymbolLaws.{symbols-of-test}
 use Rattle.repair.specs.Answer.{firstBadBound}
 use Rattle.repair.specs.Demand.{Bounds}
@@ -9,6 +10,7 @@ use Rattle.repair.proofs.AnswerLaws.{repaired-searched}
 use Rattle.repair.proofs.CheckLaws.{repaired-length, repaired-bound, repaired-large, good-bounds}
 use Rattle.repair.proofs.FoundLaws.{received-bits, found-answered}
 use Rattle.repair.proofs.Promises.{promised}
+use native.Mathlib.Omega.{arith}
 use borrow.Author.Needs.{needs}
 use Rattle.repair.proofs.repair.Statement.{statement}
 use Rattle.repair.proofs.repair.Tie as tie
@@ -20,7 +22,7 @@ returns c =
 
 -- Neither bound is bad.
 none-bad : (c : tie.Else2) → let a = c .before .before .before .before .args in 2 ≤ firstBadBound (a .limit) (a .budget)
-none-bad c = rw (c .before .first-bad-bound .ensures) at (c .if2 .left)
+none-bad c = omega (arith, c .before .first-bad-bound .ensures, c .if2 .left)
 
 bounds : (c : tie.Else2) → let a = c .before .before .before .before .args in Bounds (a .limit) (a .budget)
 bounds c = let a = c .before .before .before .before .args in good-bounds (a .limit) (a .budget) (none-bad c)
@@ -29,7 +31,7 @@ bounds c = let a = c .before .before .before .before .args in good-bounds (a .li
 right : (c : tie.Else3) → RightSymbols (c .before .before .before .before .before .before .args .frame .now)
 right c =
     let e = c .before .before .before .before in
-    symbols-of-test (e .before .before .args .frame .now) (e .if1 .left) (rw (c .before .first-large .ensures) at (c .if3 .left))
+    symbols-of-test (e .before .before .args .frame .now) (e .if1 .left) (omega (arith, c .before .first-large .ensures, c .if3 .left))
 
 first-bad-bound-requires : tie.Need-first-bad-bound-requires
 first-bad-bound-requires c κs = search needs
@@ -37,9 +39,9 @@ first-bad-bound-requires c κs = search needs
 returns-2 : tie.Need-returns-2
 returns-2 c =
     let a = c .before .before .before .before .args in
-    promised (a .frame .now) (a .limit) (a .budget) _ 
+    promised (a .frame .now) (a .limit) (a .budget) _
     (rw (c .before .first-bad-bound .ensures)
-    (repaired-bound (a .frame .now) (a .limit) (a .budget) (c .before .before .if1 .left) (rw (c .before .first-bad-bound .ensures) at (c .if2 .taken))))
+    (repaired-bound (a .frame .now) (a .limit) (a .budget) (c .before .before .if1 .left) (omega (arith, c .before .first-bad-bound .ensures, c .if2 .taken))))
 
 first-large-requires : tie.Need-first-large-requires
 first-large-requires c κs = search needs
@@ -50,10 +52,10 @@ cast-t12 c = search needs
 returns-3 : tie.Need-returns-3
 returns-3 c =
     let a = c .before .before .before .before .before .before .args in
-    promised (a .frame .now) (a .limit) (a .budget) _ 
+    promised (a .frame .now) (a .limit) (a .budget) _
     (rw (c .before .first-large .ensures)
     (repaired-large (a .frame .now) (a .limit) (a .budget) (c .before .before .before .before .if1 .left) (none-bad (c .before .before))
-    (rw (c .before .first-large .ensures) at (c .if3 .taken))))
+    (omega (arith, c .before .first-large .ensures, c .if3 .taken))))
 
 received-bits-requires : tie.Need-received-bits-requires
 received-bits-requires c κs = search needs

@@ -1,3 +1,5 @@
+-- `repair::best::nearer` meets its contract, case by case.
+-- Assumes nothing.
 use mathlib.Core.Path.{sym}
 use Rattle.repair.proofs.BestLaws.{nearer-nearest, nearer-next, nearer-neither}
 use Rattle.repair.proofs.best.nearer.Statement.{statement}

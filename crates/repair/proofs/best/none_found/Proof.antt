@@ -1,3 +1,5 @@
+-- `repair::best::none_found` meets its contract: one above the limit fits, as the limit is small.
+-- Assumes nothing.
 use mathlib.Core.Path.{refl}
 use Rattle.repair.specs.Search.{noneFound}
 use borrow.Author.Needs.{needs}

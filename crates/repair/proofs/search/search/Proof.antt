@@ -1,6 +1,9 @@
-use mathlib.Core.Path.{_≡_, refl, sym, ap, ap₂, _∙_}
+-- `repair::search::search` meets its contract: each turn is a move of the walk (Walk.antt). Both loops have one measure: a live prefix that is
+-- counted leaves less of the budget, and between two of these branches are passed and prefixes get shorter.
+-- Assumes nothing.
+use mathlib.Core.Path.{_≡_, refl, ap}
 use mathlib.Core.Logic.{⊎-elim}
-use Prim.Native.Nat.{ℕ, _+_, _-_, _*_, _^_, _≤_, _<_}
+use Prim.Native.Nat.{ℕ, _+_, _-_, _*_, _≤_, _<_}
 use native.Mathlib.Omega.{arith}
 use lib.ListN.{getD, replicate, length-replicate}
 use borrow.Author.Needs.{needs}
@@ -72,7 +75,7 @@ cost-adds c = rw (c .branch-cost .ensures) (branchCost-most _ _ (cost-most (c .b
 -- The disagreements of the longer prefix.
 longer : (c : tie.After-branch-cost Inv-loop μ-loop Inv-depths μ-depths)
     → let l = c .before .before .before in
-      l .loop .distance + c .branch-cost .result ≡ l .loop .distance + branchCost (getD (l .loop .costs) (l .loop .depth) 0) (l .loop .branch)
+    l .loop .distance + c .branch-cost .result ≡ l .loop .distance + branchCost (getD (l .loop .costs) (l .loop .depth) 0) (l .loop .branch)
 longer c = ap (λ (n : ℕ). c .before .before .before .loop .distance + n) (c .branch-cost .ensures)
 
 add-next : tie.Need-add-next Inv-loop μ-loop Inv-depths μ-depths
@@ -112,8 +115,8 @@ depths-again c =
     let is-child = c .before .child .ensures in
     rw is-child
     (walk-down (l .loop .inv .0) (few (n .before)) _ (c .zero-cost .result) (longer n)
-    (c .before .before .before .before .if2 .taken) (c .before .before .before .if3 .left) (c .before .before .if4 .taken)
-    (rw is-child at (c .zero-cost .ensures)))
+    (omega (arith, c .before .before .before .before .if2 .taken)) (omega (arith, c .before .before .before .if3 .left))
+    (omega (arith, c .before .before .if4 .taken)) (rw is-child at (c .zero-cost .ensures)))
 
 nearer-requires : tie.Need-nearer-requires Inv-loop μ-loop Inv-depths μ-depths
 nearer-requires c κs = search needs
@@ -124,15 +127,17 @@ add-branch c = omega (arith, few (c .before .before), branches-most (c .before .
 -- Past a word within the limit, or past a branch that isn't live.
 passed : (c : tie.Joined2 Inv-loop μ-loop Inv-depths μ-depths)
     → let l = c .before .before .before .before in
-      let a = l .before .before .before .before .args in
-      Walking (a .received .now) (a .limit) (a .budget) (l .loop .costs) (c .if2 .best) (c .if2 .live) (l .loop .depth) (l .loop .number)
-      (l .loop .distance) (l .loop .branch + 1)
+    let a = l .before .before .before .before .args in
+    Walking (a .received .now) (a .limit) (a .budget) (l .loop .costs) (c .if2 .best) (c .if2 .live) (l .loop .depth) (l .loop .number)
+    (l .loop .distance) (l .loop .branch + 1)
 passed c =
     let n = c .before in
     let w = n .before .before .before .loop .inv .0 in
     ⊎-elim
-    (λ v. rw (v .4, v .5, v .3 .ensures) (walk-word w (few (n .before)) _ (longer n) (v .0 .taken) (v .1 .left) (v .2 .left)))
-    (λ v. rw (v .1, v .2) (walk-past w (few (n .before)) _ (longer n) (v .0 .left)))
+    (λ v.
+    rw (v .4, v .5, v .3 .ensures)
+    (walk-word w (few (n .before)) _ (longer n) (omega (arith, v .0 .taken)) (omega (arith, v .1 .left)) (omega (arith, v .2 .left))))
+    (λ v. rw (v .1, v .2) (walk-past w (few (n .before)) _ (longer n) (omega (arith, v .0 .left))))
     (c .if2 .came)
 
 grows : (c : tie.Joined2 Inv-loop μ-loop Inv-depths μ-depths) → c .before .before .before .before .loop .live ≤ c .if2 .live
@@ -207,7 +212,7 @@ returns c =
     let n = c .before .before in
     let l = n .before .before .before in
     record {
-      over-budget = walk-over (l .loop .inv .0) (few (n .before)) _ (longer n) (c .before .if2 .taken);
+      over-budget = λ over. walk-over (l .loop .inv .0) (few (n .before)) _ (longer n) (omega (arith, c .before .if2 .taken)) (omega (arith, c .if3 .taken));
       counted = λ within. absurd (omega (arith, c .if3 .taken));
       best-of-all = λ within. absurd (omega (arith, c .if3 .taken));
     }
