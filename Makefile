@@ -20,7 +20,7 @@ test: $(HOST:%=build/%) program
 	cd tests && cargo test --release --offline
 	rt ci
 
-# Repair and a search written by hand in C, side by side in one run.
+# Repair and searches written by hand in C, side by side in one run.
 bench: build/bench_repair
 	./build/bench_repair
 

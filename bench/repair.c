@@ -1,4 +1,4 @@
-/* Measures wspr_repair and the search written by hand in C side by side in one run: ns a call, and their ratio. */
+/* Measures wspr_repair and two searches written by hand in C side by side in one run: ns a call, and the ratios. */
 #define _POSIX_C_SOURCE 199309L
 #include <inttypes.h>
 #include <stdio.h>
@@ -72,7 +72,7 @@ static void draw_frame(uint8_t *frame, const struct measured *c)
     do
         for (size_t i = 0; i < SYMBOLS; i++)
             frame[i] = random_number() & 3;
-    while (search_repair(frame, SYMBOLS, c->limit, c->budget).refusal == 16);
+    while (tuned_repair(frame, SYMBOLS, c->limit, c->budget).refusal == 16);
 }
 
 static int same(wspr_repaired a, wspr_repaired b)
@@ -81,12 +81,19 @@ static int same(wspr_repaired a, wspr_repaired b)
            a.live == b.live && a.sync_wrong == b.sync_wrong;
 }
 
-/* Holds both to the same answer to every frame, and to the case's refusal. This warms them up, too. */
-static void compare(frames f, const struct measured *c)
+static const struct measured_call {
+    const char *name;
+    repair *call;
+} calls[] = {{"wspr_repair", wspr_repair}, {"plain C", plain_repair}, {"tuned C", tuned_repair}};
+
+enum { CALLS = sizeof calls / sizeof *calls };
+
+/* Holds a search to the card's answer to every frame, and both to the case's refusal. This warms them up, too. */
+static void compare(frames f, const struct measured *c, repair *search)
 {
     for (size_t i = 0; i < FRAMES; i++) {
         wspr_repaired card = wspr_repair(f[i], SYMBOLS, c->limit, c->budget);
-        wspr_repaired by_hand = search_repair(f[i], SYMBOLS, c->limit, c->budget);
+        wspr_repaired by_hand = search(f[i], SYMBOLS, c->limit, c->budget);
 
         if (!same(card, by_hand) || card.refusal != c->refusal) {
             fprintf(stderr, "%s, limit %" PRIu32 ", frame %zu: refused %" PRIu32 ", by hand %" PRIu32
@@ -123,27 +130,36 @@ static double median(double *times)
     return times[ROUNDS / 2];
 }
 
-/* Both are timed in every round, so that whatever else the machine does meets both. */
+/* All are timed in every round, so that whatever else the machine does meets all. */
 static void measure(const struct measured *c)
 {
     static frames f;
-    double card[ROUNDS], by_hand[ROUNDS];
+    double times[CALLS][ROUNDS], card;
 
     for (size_t i = 0; i < FRAMES; i++)
         draw_frame(f[i], c);
-    compare(f, c);
-    for (size_t round = 0; round < ROUNDS; round++) {
-        card[round] = time_calls(wspr_repair, f, c);
-        by_hand[round] = time_calls(search_repair, f, c);
+    for (size_t k = 1; k < CALLS; k++)
+        compare(f, c, calls[k].call);
+    for (size_t round = 0; round < ROUNDS; round++)
+        for (size_t k = 0; k < CALLS; k++)
+            times[k][round] = time_calls(calls[k].call, f, c);
+    card = median(times[0]);
+    printf("%-26s %5" PRIu32 " %7" PRIu32 " %12.0f", c->what, c->limit, c->budget, card);
+    for (size_t k = 1; k < CALLS; k++) {
+        double by_hand = median(times[k]);
+
+        printf(" %12.0f %6.2f", by_hand, card / by_hand);
     }
-    printf("%-28s %5" PRIu32 " %7" PRIu32 " %14.0f %14.0f %7.2f\n", c->what, c->limit, c->budget, median(card),
-           median(by_hand), median(card) / median(by_hand));
+    printf("\n");
 }
 
 int main(void)
 {
     printf("repair, ns a call: medians of %d rounds over %d frames\n", ROUNDS, FRAMES);
-    printf("%-28s %5s %7s %14s %14s %7s\n", "frames", "limit", "budget", "wspr_repair", "C by hand", "ratio");
+    printf("%-26s %5s %7s %12s", "frames", "limit", "budget", calls[0].name);
+    for (size_t k = 1; k < CALLS; k++)
+        printf(" %12s %6s", calls[k].name, "ratio");
+    printf("\n");
     for (size_t i = 0; i < sizeof cases / sizeof *cases; i++)
         measure(&cases[i]);
     return 0;

@@ -1,4 +1,5 @@
-/* A search written by hand in C, without proofs: the same tree, the same answers and refusals as wspr_repair. */
+/* Two searches written by hand in C, without proofs: the same tree, the same answers and refusals as wspr_repair. The
+ * plain one goes down the tree by recursion; the tuned one has no branch that it can do without. */
 #include "search.h"
 
 #include <string.h>
@@ -8,6 +9,9 @@
 #define WORD_BITS 50
 #define LARGEST_LIMIT 12
 #define LARGEST_BUDGET 65536
+
+#define FIRST_MASK UINT32_C(0xf2d05351)
+#define SECOND_MASK UINT32_C(0xe4613c47)
 
 #define EACH_BYTE UINT64_C(0x0101010101010101)
 
@@ -41,6 +45,15 @@ typedef struct {
     uint32_t length;
     int32_t left;
 } prefix;
+
+/* What a search is to find, and what it has found so far. */
+typedef struct {
+    const uint8_t *received; /* two bits a step, the first coded bit above the second */
+    uint32_t limit, budget, words;
+    wspr_repaired *found;
+} task;
+
+typedef uint32_t search(task *t);
 
 static uint64_t eight(const uint8_t *symbols)
 {
@@ -118,10 +131,11 @@ static int32_t clock_tail(const uint8_t *received, const prefix *word, uint32_t 
 
 /* Depth first, the nearer child first. The other one is put on the stack in any case and stays there only if it is
  * live: a branch would be mispredicted too often. Returns the refusal's number. */
-static uint32_t search(const uint8_t *received, uint32_t limit, uint32_t budget, wspr_repaired *found)
+static uint32_t search_tuned(task *t)
 {
-    prefix stack[WORD_BITS], now = {0, 0, 0, (int32_t)limit};
-    uint32_t waiting = 0, live = 0, words = 0;
+    const uint8_t *received = t->received;
+    prefix stack[WORD_BITS], now = {0, 0, 0, (int32_t)t->limit};
+    uint32_t budget = t->budget, waiting = 0, live = 0, words = 0;
     int32_t most = 0;
 
     for (;;) {
@@ -142,7 +156,7 @@ static uint32_t search(const uint8_t *received, uint32_t limit, uint32_t budget,
             if (left > most || (left == most && words == 0)) {
                 most = left;
                 words = 0;
-                found->word = now.bits;
+                t->found->word = now.bits;
             }
             words += left == most;
         }
@@ -150,9 +164,53 @@ static uint32_t search(const uint8_t *received, uint32_t limit, uint32_t budget,
             break;
         now = stack[--waiting];
     }
-    found->live = live;
-    found->disagreements = limit - (uint32_t)most;
+    t->found->live = live;
+    t->found->disagreements = t->limit - (uint32_t)most;
     return words == 0 ? 17 : words == 1 ? 0 : 18;
+}
+
+/* A word within the limit: the nearest so far, or as near. */
+static void take_word(task *t, uint64_t word, uint32_t distance)
+{
+    if (t->words == 0 || distance < t->found->disagreements) {
+        t->found->word = word;
+        t->found->disagreements = distance;
+        t->words = 1;
+    } else if (distance == t->found->disagreements) {
+        t->words++;
+    }
+}
+
+/* Visits what is longer than a live prefix: its bits, the newest lowest, and the register after the tail's zeros. */
+static uint32_t visit(task *t, uint32_t length, uint64_t bits, uint32_t bits_and_tail, uint32_t distance)
+{
+    uint32_t branches = length < WORD_BITS ? 2 : 1, differing, of_zero;
+
+    if (length == CLOCKED) {
+        take_word(t, bits, distance);
+        return 0;
+    }
+    differing = (uint32_t)__builtin_parity(bits_and_tail << 1 & FIRST_MASK) << 1;
+    differing = (differing | (uint32_t)__builtin_parity(bits_and_tail << 1 & SECOND_MASK)) ^ t->received[length];
+    of_zero = (differing >> 1) + (differing & 1);
+    for (uint32_t bit = 0; bit < branches; bit++) {
+        uint32_t longer = distance + (bit ? 2 - of_zero : of_zero);
+
+        if (longer > t->limit)
+            continue;
+        if (++t->found->live > t->budget)
+            return 16;
+        if (visit(t, length + 1, length < WORD_BITS ? bits << 1 | bit : bits, bits_and_tail << 1 | bit, longer))
+            return 16;
+    }
+    return 0;
+}
+
+static uint32_t search_plain(task *t)
+{
+    uint32_t over = visit(t, 0, 0, 0, 0);
+
+    return over ? over : t->words == 0 ? 17 : t->words == 1 ? 0 : 18;
 }
 
 static wspr_repaired refused(uint32_t refusal, uint32_t place)
@@ -160,10 +218,11 @@ static wspr_repaired refused(uint32_t refusal, uint32_t place)
     return (wspr_repaired){.refusal = refusal, .place = place};
 }
 
-wspr_repaired search_repair(const uint8_t *frame, size_t frame_len, uint32_t limit, uint32_t budget)
+static wspr_repaired repair_by(search *by, const uint8_t *frame, size_t frame_len, uint32_t limit, uint32_t budget)
 {
     uint8_t received[CLOCKED];
     wspr_repaired found = {0};
+    task t = {received, limit, budget, 0, &found};
     uint32_t place, refusal;
 
     if (frame_len != SYMBOLS)
@@ -177,9 +236,19 @@ wspr_repaired search_repair(const uint8_t *frame, size_t frame_len, uint32_t lim
         return refused(7, place);
     for (size_t i = 0; i < CLOCKED; i++)
         received[i] = (uint8_t)((frame[places[2 * i]] & 2) | frame[places[2 * i + 1]] >> 1);
-    refusal = search(received, limit, budget, &found);
+    refusal = by(&t);
     if (refusal)
         return refused(refusal, 0);
     found.sync_wrong = count_sync_wrong(frame);
     return found;
+}
+
+wspr_repaired tuned_repair(const uint8_t *frame, size_t frame_len, uint32_t limit, uint32_t budget)
+{
+    return repair_by(search_tuned, frame, frame_len, limit, budget);
+}
+
+wspr_repaired plain_repair(const uint8_t *frame, size_t frame_len, uint32_t limit, uint32_t budget)
+{
+    return repair_by(search_plain, frame, frame_len, limit, budget);
 }

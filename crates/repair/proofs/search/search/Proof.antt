@@ -218,7 +218,7 @@ returns c =
     }
 
 returns-2 : tie.Need-returns-2 Inv-loop μ-loop Inv-depths μ-depths
-returns-2 c = walk-ends (c .before .before .before .loop .inv .0) (c .if5 .taken) (all-taken (c .before))
+returns-2 c = walk-ends (c .before .before .before .loop .inv .0) (omega (arith, c .if5 .taken)) (all-taken (c .before))
 
 pub search-spec : {M : Type 1} → statement M
 search-spec =
