@@ -1,5 +1,5 @@
 /* Two searches written by hand in C, without proofs: the same tree, the same answers and refusals as wspr_repair. The
- * plain one goes down the tree by recursion; the tuned one has no branch that it can do without. */
+ * plain one goes down the tree by recursion; the tuned one has few branches that are hard to predict. */
 #include "search.h"
 
 #include <string.h>

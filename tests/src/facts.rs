@@ -1,5 +1,5 @@
 // Facts of the code, from the papers or counted outside: the tests of the independent
-// implementation (tests/repair.rs) count them anew, and those of the library rely on them.
+// implementation (tests/tests/repair.rs) count them anew, and those of the library rely on them.
 
 /// The live counts of a clean frame at limits 0 to 12: of the zero word's frame they are the
 /// prefixes with so many ones or fewer among their coded bits.

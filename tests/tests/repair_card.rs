@@ -2,7 +2,7 @@
 // frames. The implementation itself is held to the definitions in repair.rs.
 //
 // Refusal 18, several words that share the fewest disagreements, can't be had here: words are 28
-// data bits apart, so no two of them are within a limit of 12. For the same reason no test tells
+// data bits apart or more, so no two of them are within a limit of 12. For the same reason no test tells
 // the nearest word from the first one found, but by the live count.
 use wsprcard_tests::answers::{refused_repair as refused, repaired_answer};
 use wsprcard_tests::card;
@@ -487,8 +487,8 @@ fn refusals_come_in_their_order() {
         for _ in 0..200 {
             let asked = asked_with_faults(&mut check.rng, faults);
             let found = check.repair(&asked.symbols, asked.limit, asked.budget);
-            let first = asked.refusal.as_ref().map_or(0, |refusal| refusal.number);
-            assert_eq!(found.refusal, first, "faults {faults:b}: {asked:?}");
+            let first = asked.refusal.as_ref().map_or((0, 0), |refusal| (refusal.number, refusal.place));
+            assert_eq!((found.refusal, found.place), first, "faults {faults:b}: {asked:?}");
         }
     }
     check.finish(&[

@@ -14,8 +14,7 @@ use Rattle.basics.proofs.BelowLaws.{sum-same, sum-le, sum-zero, sum-raised, cou
 use Rattle.basics.proofs.Choice.{below-or-not, equal-or-not}
 use Rattle.distance.specs.Prefixes.{prefixBits, prefixesOf, disagreements, isLive, liveOf, liveCount}
 use Rattle.distance.proofs.Spans.{span, span-positive, parts, parts-span, share-fewer, within-span, prefix-below, prefix-count, prefixes-most}
-use Rattle.distance.proofs.PrefixLaws.{live-within, not-live}
-use Rattle.distance.proofs.StepLaws.{disagreements-along}
+use Rattle.distance.proofs.PrefixLaws.{live-within, not-live, disagreements-along}
 
 -- How many prefixes of k bits are passed.
 unfoldable pub passedAt : ℕ → ℕ → ℕ → ℕ → ℕ

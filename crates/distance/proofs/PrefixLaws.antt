@@ -1,13 +1,13 @@
 -- Laws of prefixes: the prefixes of a word, and what a longer prefix adds.
 use mathlib.Core.Path.{_≡_, refl, sym, ap, _∙_}
-use Prim.Native.Nat.{ℕ, zero, suc, _+_, _-_, _*_, _/_, _^_, _≤_, _<_}
+use Prim.Native.Nat.{ℕ, zero, suc, _+_, _-_, _*_, _/_, _^_, _≤_, _<_, min}
 use native.Mathlib.Nat.{add-comm, div-one, sub-self}
 use native.Mathlib.Omega.{arith}
 use mathlib.Core.Bool.{true, false}
 use mathlib.Core.List.{List, [], _∷_, _++_, append-nil, append-assoc}
-use lib.ListN.{length, take, replicate, length-append, length-replicate, replicate-append-replicate}
-use lib.Pow.{shl-shr, shr-shr}
-use lib.Seq.{take-append-le, take-append-seam}
+use lib.ListN.{length, take, drop, replicate, length-append, length-replicate, take-append-drop, replicate-append-replicate}
+use lib.Pow.{pow-mono, pow-pos, shl-shr, shr-shr}
+use lib.Seq.{take-append-le, take-append-seam, take-take}
 use borrow.Author.Tests.{le-leb, lt-leb, leb-true}
 use Rattle.basics.proofs.Choice.{below-or-not}
 use Rattle.radix.specs.Numeral.{numberOf, digitsOf}
@@ -35,6 +35,19 @@ free-most k = omega arith
 pub all-free : (k number : ℕ) → k ≤ 50 → prefixBits k number ≡ bitsOf k number
 unfolding prefixBits
 all-free k number h = rw (free-first k h, sub-self k, append-nil (bitsOf k number))
+
+-- How many prefixes there are.
+pub prefixes-root : prefixesOf 0 ≡ 1
+unfolding prefixesOf freeOf
+prefixes-root = refl
+
+pub prefixes-positive : (k : ℕ) → 0 < prefixesOf k
+unfolding prefixesOf
+prefixes-positive k = pow-pos (freeOf k)
+
+pub prefixes-all : (k : ℕ) → prefixesOf k ≤ 2 ^ 50
+unfolding prefixesOf freeOf
+prefixes-all k = pow-mono {i = min k 50} {j = 50} (omega arith)
 
 -- The first k bits of k + j are those of the number without its j lowest.
 first-bits : (k j number : ℕ) → take k (bitsOf (k + j) number) ≡ bitsOf k (number / 2 ^ j)
@@ -152,3 +165,11 @@ unfolding disagreements
 disagreements-grow received bits more =
     rw (codedFrom-append 0 0 bits more)
     (differences-grow (codedFrom 0 0 bits) (codedFrom (registerAfter 0 bits) (registerAfter 0 bits) more) received)
+
+-- Disagreements grow along the prefixes of one word.
+pub disagreements-along : (received : List ℕ) (j k word : ℕ) → j ≤ k → k ≤ 81
+    → disagreements received (prefixBits j (word / 2 ^ (50 - j))) ≤ disagreements received (prefixBits k (word / 2 ^ (50 - k)))
+disagreements-along received j k word h most =
+    let longer = take k (clockedBits word) in
+    rw (← prefix-of-word j word (omega arith), ← prefix-of-word k word most)
+    (rw (take-append-drop j longer, take-take j k (clockedBits word) h) at (disagreements-grow received (take j longer) (drop j longer)))

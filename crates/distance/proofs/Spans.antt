@@ -1,15 +1,16 @@
 -- The words that begin with a prefix stand one after another: `span k` of them for one of k bits, and a word's prefix of k bits has the
 -- number word / span k. The search goes through the words in their order.
 use mathlib.Core.Path.{_≡_, refl, sym, ap, _∙_}
-use Prim.Native.Nat.{ℕ, _+_, _-_, _*_, _/_, _%_, _^_, _≤_, _<_, min, suc}
-use native.Mathlib.Nat.{pow-suc, add-mul, mul-assoc, mul-comm, zero-mul, one-mul, div-one, mul-div-cancel, mul-div-mul-right, div-lt-iff-lt-mul, mul-le-mul-right, mul-lt-mul-of-pos-right}
+use Prim.Native.Nat.{ℕ, _+_, _-_, _*_, _/_, _^_, _≤_, _<_, min, suc}
+use native.Mathlib.Nat.{pow-suc, add-mul, mul-assoc, mul-comm, zero-mul, one-mul, div-one, mul-div-cancel, div-lt-iff-lt-mul, mul-le-mul-right, mul-lt-mul-of-pos-right}
 use native.Mathlib.Omega.{arith}
+use mathlib.Core.List.{List}
 use lib.Arith.{digits-div}
-use lib.Pow.{pow-add, pow-mono, pow-pos, shr-shr, shr-mono}
+use lib.Pow.{pow-add, pow-pos, shr-shr, shr-mono}
 use Rattle.basics.proofs.Choice.{below-or-not}
-use Rattle.distance.specs.Prefixes.{freeOf, prefixesOf}
+use Rattle.distance.specs.Prefixes.{freeOf, prefixBits, prefixesOf, disagreements, wordDisagreements}
 use Rattle.distance.specs.Steps.{branchesOf, childOf, parentOf, lastBranch}
-use Rattle.distance.proofs.StepLaws.{branches-first, branches-later, child-first, child-later, parent-first, parent-later, last-first, last-later}
+use Rattle.distance.proofs.StepLaws.{branches-first, branches-later, child-first, child-later, last-below, child-parent}
 
 -- How many words begin with a prefix of k bits.
 unfoldable pub span : ℕ → ℕ
@@ -108,26 +109,22 @@ module _ (k : ℕ) where
       pub next-below : nextWord branch < number * span k + span k
       next-below = omega (arith, before-end)
 
-    -- Those with the next branch, back from a prefix of one bit more, follow its own.
-    pub parent-span : parentOf k number * span k + (lastBranch k number + 1) * span (k + 1) ≡ number * span (k + 1) + span (k + 1)
-    parent-span =
-        below-or-not k 50
-        (λ first.
-        let halves : 2 * (number / 2) + number % 2 ≡ number = omega arith in
-        rw (parent-first k first number, last-first k first number, span-half k first)
-        (twice (number / 2) (number % 2) number (span (k + 1)) halves))
-        (λ later. rw (parent-later k later number, last-later k later number, span-tail k later, span-tail (k + 1) (omega arith)) (omega arith))
-      where
-        twice : (n b m s : ℕ) → 2 * n + b ≡ m → n * (2 * s) + (b + 1) * s ≡ m * s + s
-        twice n b m s e =
-            rw (← e, add-mul b 1 s, one-mul s, add-mul (2 * n) b s, mul-assoc 2 n s, mul-comm n (2 * s), mul-assoc 2 s n, mul-comm s n) (omega arith)
+-- Back from a prefix of one bit more: its words are those with its last branch, and those with the next branch follow.
+module _ (k number : ℕ) where
+  abbrev parent : ℕ
+  parent = parentOf k number
 
-    -- A prefix of one bit more begins with the one it is longer than.
-    pub parent-begins : number * span (k + 1) / span k ≡ parentOf k number
-    parent-begins =
-        below-or-not k 50
-        (λ first. rw (parent-first k first number, span-half k first) (mul-div-mul-right number 2 (span-positive (k + 1))))
-        (λ later. rw (parent-later k later number, span-tail k later, span-tail (k + 1) (omega arith)) (div-one (number * 1) ∙ omega arith))
+  abbrev last : ℕ
+  last = lastBranch k number
+
+  parent-next : nextWord k parent last ≡ number * span (k + 1)
+  parent-next = sym (child-span k parent last (last-below k number)) ∙ ap (λ (n : ℕ). n * span (k + 1)) (child-parent k number)
+
+  pub parent-span : nextWord k parent (last + 1) ≡ number * span (k + 1) + span (k + 1)
+  parent-span = next-more k parent last ∙ ap (λ (n : ℕ). n + span (k + 1)) parent-next
+
+  pub parent-begins : number * span (k + 1) / span k ≡ parent
+  parent-begins = ap (λ (n : ℕ). n / span k) (sym parent-next) ∙ next-prefix k parent last (last-below k number)
 
 -- ---- All words
 
@@ -139,21 +136,9 @@ all-spans k =
     sym (pow-add 2 (min k 50) (50 - k)) ∙ ap (λ (n : ℕ). 2 ^ n) all
 
 -- The empty prefix has them.
-pub prefixes-root : prefixesOf 0 ≡ 1
-unfolding prefixesOf freeOf
-prefixes-root = refl
-
 pub span-root : span 0 ≡ 2 ^ 50
 unfolding span
 span-root = refl
-
-pub prefixes-positive : (k : ℕ) → 0 < prefixesOf k
-unfolding prefixesOf
-prefixes-positive k = pow-pos (freeOf k)
-
-pub prefixes-all : (k : ℕ) → prefixesOf k ≤ 2 ^ 50
-unfolding prefixesOf freeOf
-prefixes-all k = pow-mono {i = min k 50} {j = 50} (omega arith)
 
 pub prefix-below : (k word : ℕ) → word < 2 ^ 50 → word / span k < prefixesOf k
 prefix-below k word h = div-lt-iff-lt-mul (span-positive k) .1 (rw (all-spans k) h)
@@ -170,3 +155,8 @@ prefix-count k = ap (λ (n : ℕ). n / span k) (sym (all-spans k)) ∙ mul-div-c
 pub prefixes-most : (k words : ℕ) → words ≤ 2 ^ 50 → words / span k ≤ prefixesOf k
 unfolding span
 prefixes-most k words h = omega (arith, prefix-count k, shr-mono (50 - k) h)
+
+-- A word is a prefix of 81 bits.
+pub word-at : (received : List ℕ) (word : ℕ) → disagreements received (prefixBits 81 (word / span 81)) ≡ wordDisagreements received word
+unfolding wordDisagreements
+word-at received word = rw (span-tail 81 (omega arith), div-one word)

@@ -6,19 +6,19 @@ use native.Mathlib.Numerals.{add-one}
 use native.Mathlib.Omega.{arith}
 use mathlib.Core.List.{List, [], _∷_, _++_, append-assoc}
 use lib.Dec.{eqb}
-use lib.ListN.{length, getD, take, drop, replicate, length-drop, take-append-drop, replicate-append-replicate}
+use lib.ListN.{length, getD, drop, replicate, length-drop, replicate-append-replicate}
 use lib.Pow.{shr-shr}
-use lib.Seq.{drop-cons, take-take}
+use lib.Seq.{drop-cons}
 use borrow.Author.Tests.{lt-ltb, le-ltb}
 use Rattle.basics.proofs.Choice.{cond-both, below-or-not}
 use Rattle.radix.specs.Numeral.{digitsOf, numberFrom, numberOf}
 use Rattle.radix.proofs.Laws.{numberOf-digitsOf}
-use Rattle.convolution.specs.Code.{bitsOf, clockedBits, clocked, firstMask, secondMask, parity, codedFrom}
+use Rattle.convolution.specs.Code.{bitsOf, clocked, firstMask, secondMask, parity, codedFrom}
 use Rattle.convolution.proofs.CodeLaws.{count-bits, positive-bits, length-bitsOf, length-codedFrom, first-odd, second-odd, parity-other}
 use Rattle.distance.specs.Prefixes.{freeOf, prefixBits, prefixesOf, differences, disagreements}
 use Rattle.distance.specs.Steps.{branchesOf, childOf, parentOf, lastBranch, registerOf, stepCost, zeroCost, branchCost}
 use Rattle.distance.proofs.Bits.{AllBits, bits-drop, unlike, unlike-most, unlike-others, differences-append}
-use Rattle.distance.proofs.PrefixLaws.{free-first, free-later, all-free, prefix-of-word, length-prefixBits, registerAfter, codedFrom-append, disagreements-grow}
+use Rattle.distance.proofs.PrefixLaws.{free-first, free-later, all-free, length-prefixBits, registerAfter, codedFrom-append}
 
 -- ---- Branches
 
@@ -257,11 +257,3 @@ disagreements-branch received k number branch long are-bits h n b =
       register-prefix k number n,
       step-branch rest (registerOf k number) branch two (bits-drop (2 * k) received are-bits) (omega (arith, branches-most k)),
     )
-
--- Disagreements grow along the prefixes of one word.
-pub disagreements-along : (received : List ℕ) (j k word : ℕ) → j ≤ k → k ≤ 81
-    → disagreements received (prefixBits j (word / 2 ^ (50 - j))) ≤ disagreements received (prefixBits k (word / 2 ^ (50 - k)))
-disagreements-along received j k word h most =
-    let longer = take k (clockedBits word) in
-    rw (← prefix-of-word j word (omega arith), ← prefix-of-word k word most)
-    (rw (take-append-drop j longer, take-take j k (clockedBits word) h) at (disagreements-grow received (take j longer) (drop j longer)))

@@ -1,18 +1,16 @@
--- Repair's answer is what demand 3 asks for; and what its bounds and its count of wrong sync bits mean.
+-- Repair's answer is what demand 3 asks for; and what its count of wrong sync bits means.
 use mathlib.Core.Path.{_≡_, refl, sym, ap, _∙_}
-use mathlib.Core.Logic.{_↔_, _⊎_, inl, inr}
+use mathlib.Core.Logic.{_↔_}
 use Prim.Native.Nat.{ℕ, _%_, _≤_, _<_}
 use native.Mathlib.Omega.{arith}
 use mathlib.Core.Bool.{Bool, not}
 use mathlib.Core.List.{List}
-use lib.Dec.{eqb, leb}
+use lib.Dec.{eqb}
 use lib.ListN.{length, getD}
-use borrow.Author.Tests.{eq-eqb, eqb-true, lt-ltb, le-ltb, le-leb, leb-true}
+use borrow.Author.Tests.{eq-eqb, eqb-true, lt-ltb, le-ltb}
 use Rattle.basics.specs.Below.{countBelow}
-use Rattle.basics.specs.Lists.{firstFailing}
-use Rattle.basics.specs.Test.{between}
 use Rattle.basics.proofs.BelowLaws.{count-none, count-one}
-use Rattle.basics.proofs.Choice.{between-true, between-range, cond-held, by-test, below-or-not}
+use Rattle.basics.proofs.Choice.{by-test, below-or-not}
 use Rattle.refusal.specs.declared.Refusal.{Refusal}
 use Rattle.refusal.specs.Refusals.{refusal, overBudget, noneWithinLimit, sharedFewest}
 use Rattle.frame.specs.Symbols.{syncAt, RightSymbols, receivedBits}
@@ -21,10 +19,11 @@ use Rattle.frame.proofs.SymbolLaws.{none-large}
 use Rattle.distance.specs.Prefixes.{liveCount}
 use Rattle.distance.specs.Nearest.{fewest, sharing, nearest}
 use Rattle.distance.proofs.NearestLaws.{fewest-below, fewest-reached, fewest-is, fewest-only, sharing-only, nearest-only, only-nearest, sharing-two, two-sharing}
-use Rattle.repair.specs.Answer.{firstBadBound, wrongSyncIn, nearestOf, nearestWithin, searched, repaired, repairNumbers}
+use Rattle.repair.specs.Answer.{wrongSyncIn, nearestOf, nearestWithin, searched, repaired, repairNumbers}
 use Rattle.repair.specs.Demand.{Bounds, IsNearest, NoneWithin, Shared, AsDemanded}
 use Rattle.repair.specs.declared.Nearest.{Nearest}
 use Rattle.repair.specs.declared.Repaired.{Repaired}
+use Rattle.repair.proofs.BoundLaws.{no-bad-bound}
 
 -- ---- Answers that differ
 
@@ -35,7 +34,7 @@ word-same : (m n : Nearest) → Repaired.Word m ≡ Repaired.Word n → m ≡ n
 unfolding repairNumbers
 word-same m n e = ap (λ (a : Repaired). repairNumbers a .nearest) e
 
-number-same : (a b : Repaired) → a ≡ b → repairNumbers a .number ≡ repairNumbers b .number
+pub number-same : (a b : Repaired) → a ≡ b → repairNumbers a .number ≡ repairNumbers b .number
 number-same a b e = ap (λ (a : Repaired). repairNumbers a .number) e
 
 module _ (frame : List ℕ) (limit budget : ℕ) where
@@ -47,25 +46,9 @@ module _ (frame : List ℕ) (limit budget : ℕ) where
 
   -- ---- Where the symbols, the limit and the budget are as they should be
 
-  pub no-bad-bound : Bounds limit budget → firstBadBound limit budget ≡ 2
-  unfolding firstBadBound firstFailing
-  no-bad-bound bounds =
-      let limit-right = le-leb limit 12 (omega (arith, bounds .limit-to-12)) in
-      let budget-right = between-true 1 65_536 budget (omega (arith, bounds .budget-from-1)) (omega (arith, bounds .budget-to-65536)) in
-      rw (limit-right, budget-right)
-
-  -- Only where both are within their bounds is neither refused.
-  pub bounds-of : firstBadBound limit budget ≡ 2 → Bounds limit budget
-  unfolding firstBadBound firstFailing
-  bounds-of e =
-      let first = cond-held (leb limit 12) e (λ z. absurd (omega arith)) in
-      let second = cond-held (between 1 65_536 budget) (first .1) (λ z. absurd (omega arith)) in
-      let range = between-range 1 65_536 budget (second .0) in
-      record { limit-to-12 = omega (arith, leb-true limit 12 (first .0)); budget-from-1 = omega (arith, range .0); budget-to-65536 = omega (arith, range .1) }
-
   pub repaired-searched : RightSymbols frame → Bounds limit budget → repaired frame limit budget ≡ searched frame limit budget
   unfolding repaired
-  repaired-searched right bounds = rw (eq-eqb (length frame) 162 (right .right-length), no-bad-bound bounds, none-large frame right)
+  repaired-searched right bounds = rw (eq-eqb (length frame) 162 (right .right-length), no-bad-bound limit budget bounds, none-large frame right)
 
   -- ---- Wrong sync bits
 
@@ -87,15 +70,15 @@ module _ (frame : List ℕ) (limit budget : ℕ) where
 
   module _ (within : live ≤ budget) where
     module _ (near : fewest received ≤ limit) where
-      pub searched-word : sharing received ≤ 1 → searched frame limit budget ≡ Repaired.Word (nearestOf frame limit)
+      searched-word : sharing received ≤ 1 → searched frame limit budget ≡ Repaired.Word (nearestOf frame limit)
       unfolding searched nearestWithin
       searched-word one = rw (le-ltb budget live within, le-ltb limit (fewest received) near, le-ltb 1 (sharing received) one)
 
-      pub searched-shared : 1 < sharing received → searched frame limit budget ≡ Repaired.Refused (refusal sharedFewest 0)
+      searched-shared : 1 < sharing received → searched frame limit budget ≡ Repaired.Refused (refusal sharedFewest 0)
       unfolding searched nearestWithin
       searched-shared two = rw (le-ltb budget live within, le-ltb limit (fewest received) near, lt-ltb 1 (sharing received) two)
 
-    pub searched-none : limit < fewest received → searched frame limit budget ≡ Repaired.Refused (refusal noneWithinLimit 0)
+    searched-none : limit < fewest received → searched frame limit budget ≡ Repaired.Refused (refusal noneWithinLimit 0)
     unfolding searched nearestWithin
     searched-none far = rw (le-ltb budget live within, lt-ltb limit (fewest received) far)
 
@@ -123,20 +106,11 @@ module _ (frame : List ℕ) (limit budget : ℕ) where
       (λ two. rw (searched-shared within near two) (shared within near two))
       (λ one. rw (searched-word within near one) (word within near one))))
 
-  -- The number of its refusal, if it is one.
-  pub searched-number : (repairNumbers (searched frame limit budget) .number ≡ 0) ⊎ (16 ≤ repairNumbers (searched frame limit budget) .number)
-  unfolding repairNumbers
-  searched-number =
-      by-case (λ a. (repairNumbers a .number ≡ 0) ⊎ (16 ≤ repairNumbers a .number))
-      (λ over. inr (omega arith))
-      (λ within far. inr (omega arith))
-      (λ within near two. inr (omega arith))
-      (λ within near one. inl refl)
-
-  pub searched-refusal : (f : Refusal) → searched frame limit budget ≡ Repaired.Refused f → 0 < f .number
+  -- A search refuses by 16 or more.
+  pub searched-refusal : (f : Refusal) → searched frame limit budget ≡ Repaired.Refused f → 16 ≤ f .number
   unfolding repairNumbers
   searched-refusal f =
-      by-case (λ a. a ≡ Repaired.Refused f → 0 < f .number)
+      by-case (λ a. a ≡ Repaired.Refused f → 16 ≤ f .number)
       (λ over e. omega (arith, number-same _ _ e))
       (λ within far e. omega (arith, number-same _ _ e))
       (λ within near two e. omega (arith, number-same _ _ e))

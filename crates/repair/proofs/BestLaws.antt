@@ -6,24 +6,24 @@ use mathlib.Core.List.{List}
 use borrow.Author.Tests.{lt-ltb, le-ltb}
 use Rattle.basics.proofs.Choice.{below-or-not}
 use Rattle.distance.specs.Prefixes.{wordDisagreements}
-use Rattle.repair.specs.Search.{noneFound, nearerOf, BestBelow}
+use Rattle.repair.specs.Search.{noneFound, bestWith, BestBelow}
 use Rattle.repair.specs.declared.best.Best.{Best}
 
 -- ---- The cases of a word more
 
 module _ (best : Best) (word distance : ℕ) where
-  pub nearer-nearest : distance < best .fewest → nearerOf best word distance ≡ record { word = word; fewest = distance; next = best .fewest }
-  unfolding nearerOf
-  nearer-nearest h = rw (lt-ltb distance (best .fewest) h)
+  pub with-nearest : distance < best .fewest → bestWith best word distance ≡ record { word = word; fewest = distance; next = best .fewest }
+  unfolding bestWith
+  with-nearest h = rw (lt-ltb distance (best .fewest) h)
 
-  pub nearer-next : best .fewest ≤ distance → distance < best .next
-      → nearerOf best word distance ≡ record { word = best .word; fewest = best .fewest; next = distance }
-  unfolding nearerOf
-  nearer-next h k = rw (le-ltb distance (best .fewest) h, lt-ltb distance (best .next) k)
+  pub with-next : best .fewest ≤ distance → distance < best .next
+      → bestWith best word distance ≡ record { word = best .word; fewest = best .fewest; next = distance }
+  unfolding bestWith
+  with-next h k = rw (le-ltb distance (best .fewest) h, lt-ltb distance (best .next) k)
 
-  pub nearer-neither : best .fewest ≤ distance → best .next ≤ distance → nearerOf best word distance ≡ best
-  unfolding nearerOf
-  nearer-neither h k = rw (le-ltb distance (best .fewest) h, le-ltb distance (best .next) k)
+  pub with-neither : best .fewest ≤ distance → best .next ≤ distance → bestWith best word distance ≡ best
+  unfolding bestWith
+  with-neither h k = rw (le-ltb distance (best .fewest) h, le-ltb distance (best .next) k)
 
 -- ---- What the record says
 
@@ -76,14 +76,14 @@ module _ (received : List ℕ) (limit : ℕ) where
     found-before : best .fewest ≤ limit → best .word < bound
     found-before k = b .fewest-found k .0
 
-    pub best-takes : BestBelow received limit (bound + 1) (nearerOf best bound distance)
+    pub best-takes : BestBelow received limit (bound + 1) (bestWith best bound distance)
     best-takes =
         below-or-not distance (best .fewest)
-        (λ less. rw (nearer-nearest best bound distance less) (nearest less))
+        (λ less. rw (with-nearest best bound distance less) (nearest less))
         (λ no-less.
         below-or-not distance (best .next)
-        (λ less. rw (nearer-next best bound distance no-less less) (second no-less less))
-        (λ neither. rw (nearer-neither best bound distance no-less neither) (unchanged no-less neither)))
+        (λ less. rw (with-next best bound distance no-less less) (second no-less less))
+        (λ neither. rw (with-neither best bound distance no-less neither) (unchanged no-less neither)))
       where
         nearest : distance < best .fewest → BestBelow received limit (bound + 1) (record { word = bound; fewest = distance; next = best .fewest })
         nearest less =

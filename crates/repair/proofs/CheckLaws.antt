@@ -1,13 +1,12 @@
 -- What repair refuses before it searches: 1, 15 and 7, each exactly when it applies and none before it does.
 use mathlib.Core.Path.{_≡_, ap, _∙_}
-use mathlib.Core.Logic.{_⊎_, inl, inr, ⊎-elim}
+use mathlib.Core.Logic.{_⊎_, inl, inr}
 use Prim.Native.Nat.{ℕ, _≤_, _<_}
 use native.Mathlib.Omega.{arith}
 use mathlib.Core.List.{List}
 use lib.ListN.{length}
-use borrow.Author.Tests.{eq-eqb, ne-eqb, lt-ltb, le-ltb, le-leb, lt-leb, leb-true, leb-false}
-use Rattle.basics.specs.Lists.{firstFailing}
-use Rattle.basics.proofs.Choice.{between-below, between-above, below-or-not, equal-or-not}
+use borrow.Author.Tests.{eq-eqb, ne-eqb, lt-ltb, le-ltb, leb-true, leb-false}
+use Rattle.basics.proofs.Choice.{below-or-not, equal-or-not}
 use Rattle.basics.proofs.ListLaws.{fails-at, passes-before-first}
 use Rattle.refusal.specs.declared.Refusal.{Refusal}
 use Rattle.refusal.specs.Refusals.{refusal, wrongLength, symbolTooLarge, badBound}
@@ -15,40 +14,15 @@ use Rattle.frame.specs.Symbols.{RightSymbols}
 use Rattle.frame.specs.Answer.{small, firstLarge}
 use Rattle.frame.proofs.SymbolLaws.{symbols-of-test}
 use Rattle.repair.specs.Answer.{firstBadBound, searched, repaired, repairNumbers}
-use Rattle.repair.specs.Demand.{Bounds, FirstLarge, AsChecked}
+use Rattle.repair.specs.Demand.{Bounds, FirstLargeAt, AsChecked}
 use Rattle.repair.specs.declared.Repaired.{Repaired}
-use Rattle.repair.proofs.AnswerLaws.{no-bad-bound, searched-number, searched-refusal}
-
--- ---- The first bound that is bad
-
-module _ (limit budget : ℕ) where
-  pub bad-limit-first : 12 < limit → firstBadBound limit budget ≡ 0
-  unfolding firstBadBound firstFailing
-  bad-limit-first h = rw (lt-leb limit 12 h)
-
-  pub bad-budget-next : limit ≤ 12 → (budget ≡ 0) ⊎ (65_536 < budget) → firstBadBound limit budget ≡ 1
-  unfolding firstBadBound firstFailing
-  bad-budget-next h =
-      ⊎-elim
-      (λ none. rw (le-leb limit 12 h, between-below 1 65_536 budget (omega arith)))
-      (λ more. rw (le-leb limit 12 h, between-above 1 65_536 budget (omega arith) more))
-
-  -- None is bad only within the bounds.
-  pub good-bounds : 2 ≤ firstBadBound limit budget → Bounds limit budget
-  good-bounds none =
-      record {
-        limit-to-12 = below-or-not 12 limit (λ more. absurd (omega (arith, bad-limit-first more))) (λ h. h);
-        budget-from-1 = below-or-not budget 1 (λ less. absurd (bad (inl (omega arith)))) (λ h. h);
-        budget-to-65536 = below-or-not 65_536 budget (λ more. absurd (bad (inr more))) (λ h. h);
-      }
-    where
-      bad : (budget ≡ 0) ⊎ (65_536 < budget) → ⊥
-      bad out = below-or-not 12 limit (λ more. omega (arith, bad-limit-first more)) (λ h. omega (arith, bad-budget-next h out))
+use Rattle.repair.proofs.AnswerLaws.{number-same, repaired-searched, searched-refusal}
+use Rattle.repair.proofs.BoundLaws.{bad-limit-first, bad-budget-next, no-bad-bound}
 
 -- ---- The first symbol above 3
 
 module _ (frame : List ℕ) where
-  first-large : firstLarge frame < length frame → FirstLarge frame (firstLarge frame)
+  first-large : firstLarge frame < length frame → FirstLargeAt frame (firstLarge frame)
   unfolding firstLarge
   first-large h =
       record {
@@ -58,7 +32,7 @@ module _ (frame : List ℕ) where
       }
 
   -- There is one such place only.
-  only-first : (p q : ℕ) → FirstLarge frame p → FirstLarge frame q → p ≡ q
+  only-first : (p q : ℕ) → FirstLargeAt frame p → FirstLargeAt frame q → p ≡ q
   only-first p q a b =
       below-or-not p q
       (λ less. absurd (omega (arith, a .large, b .none-before p less)))
@@ -85,11 +59,6 @@ module _ (frame : List ℕ) (limit budget : ℕ) where
     repaired-large good large =
         rw (eq-eqb (length frame) 162 long, le-ltb (firstBadBound limit budget) 2 good, lt-ltb (firstLarge frame) 162 large)
 
-    pub repaired-right : 2 ≤ firstBadBound limit budget → 162 ≤ firstLarge frame → repaired frame limit budget ≡ searched frame limit budget
-    unfolding repaired
-    repaired-right good small-all =
-        rw (eq-eqb (length frame) 162 long, le-ltb (firstBadBound limit budget) 2 good, le-ltb (firstLarge frame) 162 small-all)
-
   bound-refused : (place : ℕ) → firstBadBound limit budget ≡ place → place < 2 → length frame ≡ 162
       → repaired frame limit budget ≡ Repaired.Refused (refusal badBound place)
   bound-refused place e h long =
@@ -100,7 +69,7 @@ module _ (frame : List ℕ) (limit budget : ℕ) where
       → ((length frame ≡ 162 → ⊥) → P (Repaired.Refused (refusal wrongLength 0)))
       → (length frame ≡ 162 → 12 < limit → P (Repaired.Refused (refusal badBound 0)))
       → (length frame ≡ 162 → BadBudget → P (Repaired.Refused (refusal badBound 1)))
-      → (length frame ≡ 162 → Bounds limit budget → FirstLarge frame (firstLarge frame) → P (Repaired.Refused (refusal symbolTooLarge (firstLarge frame))))
+      → (length frame ≡ 162 → Bounds limit budget → FirstLargeAt frame (firstLarge frame) → P (Repaired.Refused (refusal symbolTooLarge (firstLarge frame))))
       → (RightSymbols frame → Bounds limit budget → P (searched frame limit budget))
       → P (repaired frame limit budget)
   by-check P short limit-bad budget-bad large right =
@@ -126,24 +95,27 @@ module _ (frame : List ℕ) (limit budget : ℕ) where
 
       checked-bounds : length frame ≡ 162 → Bounds limit budget → P (repaired frame limit budget)
       checked-bounds long bounds =
-          let good : 2 ≤ firstBadBound limit budget = omega (arith, no-bad-bound frame limit budget bounds) in
           below-or-not (firstLarge frame) 162
-          (λ is-large. rw (repaired-large long good is-large) (large long bounds (first-large frame (rw long is-large))))
-          (λ all-small. rw (repaired-right long good all-small) (right (symbols-of-test frame long all-small) bounds))
+          (λ is-large.
+          let good : 2 ≤ firstBadBound limit budget = omega (arith, no-bad-bound limit budget bounds) in
+          rw (repaired-large long good is-large) (large long bounds (first-large frame (rw long is-large))))
+          (λ all-small.
+          let symbols = symbols-of-test frame long all-small in
+          rw (repaired-searched frame limit budget symbols bounds) (right symbols bounds))
 
   -- ---- Each exactly when it applies
 
-  -- Two refusals are the same only by number and place, and no search refuses so.
+  place-same : (f g : Refusal) → Repaired.Refused f ≡ Repaired.Refused g → f .place ≡ g .place
+  unfolding repairNumbers
+  place-same f g e = ap (λ (a : Repaired). repairNumbers a .place) e
+
+  -- Two refusals are the same only by number and place.
   differs : {Q : Type 0} (f g : Refusal) → ((f .number ≡ g .number) × (f .place ≡ g .place) → ⊥) → Repaired.Refused f ≡ Repaired.Refused g → Q
   unfolding repairNumbers
-  differs f g other e =
-      absurd (other (ap (λ (a : Repaired). repairNumbers a .number) e, ap (λ (a : Repaired). repairNumbers a .place) e))
+  differs f g other e = absurd (other (number-same _ _ e, place-same f g e))
 
-  not-searched : {Q : Type 0} (f : Refusal) → 0 < f .number → f .number < 16 → searched frame limit budget ≡ Repaired.Refused f → Q
-  unfolding repairNumbers
-  not-searched f h k e =
-      let number : repairNumbers (searched frame limit budget) .number ≡ f .number = ap (λ (a : Repaired). repairNumbers a .number) e in
-      ⊎-elim (λ answered. absurd (omega arith)) (λ refused. absurd (omega arith)) (searched-number frame limit budget)
+  not-searched : {Q : Type 0} (f : Refusal) → f .number < 16 → searched frame limit budget ≡ Repaired.Refused f → Q
+  not-searched f h e = absurd (omega (arith, searched-refusal frame limit budget f e))
 
   length-told : repaired frame limit budget ≡ Repaired.Refused (refusal wrongLength 0) → length frame ≡ 162 → ⊥
   length-told =
@@ -152,7 +124,7 @@ module _ (frame : List ℕ) (limit budget : ℕ) where
       (λ long more. differs _ _ (λ same. omega (arith, same .0)))
       (λ long bad. differs _ _ (λ same. omega (arith, same .0)))
       (λ long bounds first. differs _ _ (λ same. omega (arith, same .0)))
-      (λ right bounds. not-searched _ (omega arith) (omega arith))
+      (λ right bounds. not-searched _ (omega arith))
 
   limit-told : repaired frame limit budget ≡ Repaired.Refused (refusal badBound 0) → (length frame ≡ 162) × (12 < limit)
   limit-told =
@@ -161,7 +133,7 @@ module _ (frame : List ℕ) (limit budget : ℕ) where
       (λ long more e. (long, more))
       (λ long bad. differs _ _ (λ same. omega (arith, same .1)))
       (λ long bounds first. differs _ _ (λ same. omega (arith, same .0)))
-      (λ right bounds. not-searched _ (omega arith) (omega arith))
+      (λ right bounds. not-searched _ (omega arith))
 
   budget-told : repaired frame limit budget ≡ Repaired.Refused (refusal badBound 1) → (length frame ≡ 162) × BadBudget
   budget-told =
@@ -170,29 +142,24 @@ module _ (frame : List ℕ) (limit budget : ℕ) where
       (λ long more. differs _ _ (λ same. omega (arith, same .1)))
       (λ long bad e. (long, bad))
       (λ long bounds first. differs _ _ (λ same. omega (arith, same .0)))
-      (λ right bounds. not-searched _ (omega arith) (omega arith))
+      (λ right bounds. not-searched _ (omega arith))
 
   symbol-told : (place : ℕ) → repaired frame limit budget ≡ Repaired.Refused (refusal symbolTooLarge place)
-      → (length frame ≡ 162) × (Bounds limit budget × FirstLarge frame place)
-  unfolding repairNumbers
+      → (length frame ≡ 162) × (Bounds limit budget × FirstLargeAt frame place)
   symbol-told place =
-      by-check (λ a. a ≡ Repaired.Refused (refusal symbolTooLarge place) → (length frame ≡ 162) × (Bounds limit budget × FirstLarge frame place))
+      by-check (λ a. a ≡ Repaired.Refused (refusal symbolTooLarge place) → (length frame ≡ 162) × (Bounds limit budget × FirstLargeAt frame place))
       (λ other. differs _ _ (λ same. omega (arith, same .0)))
       (λ long more. differs _ _ (λ same. omega (arith, same .0)))
       (λ long bad. differs _ _ (λ same. omega (arith, same .0)))
-      (λ long bounds first e. (long, (bounds, rw (same-place e) at first)))
-      (λ right bounds. not-searched _ (omega arith) (omega arith))
-    where
-      same-place : Repaired.Refused (refusal symbolTooLarge (firstLarge frame)) ≡ Repaired.Refused (refusal symbolTooLarge place) → firstLarge frame ≡ place
-      same-place e = ap (λ (a : Repaired). repairNumbers a .place) e
-
-  symbol-refused : (place : ℕ) → (length frame ≡ 162) × (Bounds limit budget × FirstLarge frame place)
+      (λ long bounds first e. (long, (bounds, rw (place-same _ _ e) at first)))
+      (λ right bounds. not-searched _ (omega arith))
+  symbol-refused : (place : ℕ) → (length frame ≡ 162) × (Bounds limit budget × FirstLargeAt frame place)
       → repaired frame limit budget ≡ Repaired.Refused (refusal symbolTooLarge place)
   symbol-refused place (long, (bounds, first)) =
       below-or-not (firstLarge frame) 162
       (λ large.
       let same = only-first frame (firstLarge frame) place (first-large frame (rw long large)) first in
-      repaired-large long (omega (arith, no-bad-bound frame limit budget bounds)) large
+      repaired-large long (omega (arith, no-bad-bound limit budget bounds)) large
       ∙ ap (λ (p : ℕ). Repaired.Refused (refusal symbolTooLarge p)) same)
       (λ none. absurd (omega (arith, symbols-of-test frame long none .symbols-to-3 place (omega (arith, first .within)), first .large)))
 
@@ -201,14 +168,11 @@ module _ (frame : List ℕ) (limit budget : ℕ) where
   unfolding repairNumbers
   refusal-number f =
       by-check (λ a. a ≡ Repaired.Refused f → 0 < f .number)
-      (λ other e. omega (arith, number-told e))
-      (λ long more e. omega (arith, number-told e))
-      (λ long bad e. omega (arith, number-told e))
-      (λ long bounds first e. omega (arith, number-told e))
-      (λ right bounds. searched-refusal frame limit budget f)
-    where
-      number-told : {g : Refusal} → Repaired.Refused g ≡ Repaired.Refused f → g .number ≡ f .number
-      number-told e = ap (λ (a : Repaired). repairNumbers a .number) e
+      (λ other e. omega (arith, number-same _ _ e))
+      (λ long more e. omega (arith, number-same _ _ e))
+      (λ long bad e. omega (arith, number-same _ _ e))
+      (λ long bounds first e. omega (arith, number-same _ _ e))
+      (λ right bounds e. omega (arith, searched-refusal frame limit budget f e))
 
   pub checked : AsChecked frame limit budget (repaired frame limit budget)
   checked =

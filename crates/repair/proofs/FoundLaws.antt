@@ -14,7 +14,7 @@ use Rattle.distance.specs.Prefixes.{wordDisagreements, liveCount}
 use Rattle.distance.specs.Nearest.{AtMostAll, OnlyNearest}
 use Rattle.repair.specs.Answer.{wrongSyncIn, searched}
 use Rattle.repair.specs.Demand.{IsNearest, Shared}
-use Rattle.repair.specs.Search.{BestBelow, Received, Searched, answerOf}
+use Rattle.repair.specs.Search.{BestBelow, Received, SearchFound, answerOf}
 use Rattle.repair.specs.declared.best.Best.{Best}
 use Rattle.repair.specs.declared.search.Found.{Found}
 use Rattle.repair.specs.declared.Nearest.{Nearest}
@@ -87,7 +87,7 @@ module _ (received : List ℕ) (limit : ℕ) (best : Best) (b : BestBelow receiv
 
 -- ---- The answer
 
-module _ (frame : List ℕ) (limit budget : ℕ) (found : Found) (wrong : ℕ) (s : Searched (receivedBits frame) limit budget found)
+module _ (frame : List ℕ) (limit budget : ℕ) (found : Found) (wrong : ℕ) (s : SearchFound (receivedBits frame) limit budget found)
     (e : wrong ≡ wrongSyncIn frame) where
   live-counted : found .live ≤ budget → liveCount (receivedBits frame) limit ≤ budget
   live-counted within = omega (arith, s .counted within)

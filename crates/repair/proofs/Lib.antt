@@ -1,10 +1,11 @@
--- `AnswerLaws`: the answer is what demand 3 asks for. `FlipLaws`: flipped data bits, and that two at most are repaired. `BestLaws`: the
--- nearest word so far. `Walk`: the moves of the search. `FoundLaws`: the answer that a search gives. `CheckLaws`: what
--- is refused before it. `Promises`: all that the answer is held to.
+-- `BoundLaws`: the limit and the budget. `AnswerLaws`: the answer is what demand 3 asks for. `CheckLaws`: what is refused before a search.
+-- `FlipLaws`: flipped data bits, and that two at most are repaired. `BestLaws`: the nearest word so far. `Walk`: the moves of the search.
+-- `FoundLaws`: the answer that a search gives. `Promises`: all that the answer is held to.
+pub mod BoundLaws
 pub mod AnswerLaws
+pub mod CheckLaws
 pub mod FlipLaws
 pub mod BestLaws
 pub mod Walk
 pub mod FoundLaws
-pub mod CheckLaws
 pub mod Promises

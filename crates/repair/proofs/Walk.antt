@@ -1,8 +1,8 @@
 -- The search of repair: what holds whenever it stands at a prefix and is to take a branch of it, and how each of its moves keeps that. The
--- moves know of the cost of a branch only that it takes a prefix's disagreements to those of the longer one.
+-- moves know of the cost of a branch only that it is at most 2 and takes a prefix's disagreements, here the distance, to those of the longer one.
 use mathlib.Core.Path.{_≡_, sym, ap, ap₂, _∙_, subst}
 use Prim.Native.Nat.{ℕ, _+_, _-_, _*_, _/_, _^_, _≤_, _<_}
-use native.Mathlib.Nat.{zero-mul, zero-div, div-one}
+use native.Mathlib.Nat.{zero-mul, zero-div}
 use native.Mathlib.Omega.{arith}
 use mathlib.Core.List.{List}
 use lib.ListN.{length, getD, set, length-set}
@@ -11,10 +11,11 @@ use Rattle.basics.proofs.Choice.{equal-or-not}
 use Rattle.distance.specs.Prefixes.{prefixBits, prefixesOf, disagreements, wordDisagreements, liveCount}
 use Rattle.distance.specs.Steps.{branchesOf, childOf, parentOf, lastBranch, zeroCost, branchCost}
 use Rattle.distance.proofs.Bits.{AllBits, bits-each}
-use Rattle.distance.proofs.Spans.{span, span-tail, span-within, span-root, prefixes-root, prefixes-positive, prefixes-all, share-fewer, within-span, first-of-span, child-span, nextWord, next-none, next-more, next-all, next-prefix, next-child, next-below, parent-span, parent-begins}
+use Rattle.distance.proofs.PrefixLaws.{prefixes-root, prefixes-positive, prefixes-all}
+use Rattle.distance.proofs.Spans.{span, span-tail, span-within, span-root, share-fewer, within-span, first-of-span, child-span, nextWord, next-none, next-more, next-all, next-prefix, next-child, next-below, parent-span, parent-begins, word-at}
 use Rattle.distance.proofs.Passed.{passedLive, live-enter, live-whole, live-leave, words-dead, live-pass, live-starts, live-ends, live-most}
 use Rattle.distance.proofs.StepLaws.{branches-later, child-below, parent-below, last-below, child-parent, prefix-empty, zeroCost-most, disagreements-branch}
-use Rattle.repair.specs.Search.{noneFound, nearerOf, BestBelow, Received, Searched}
+use Rattle.repair.specs.Search.{noneFound, bestWith, BestBelow, Received, SearchFound}
 use Rattle.repair.specs.declared.best.Best.{Best}
 use Rattle.repair.proofs.BestLaws.{best-starts, best-passes, best-takes}
 
@@ -33,11 +34,6 @@ pub record Walking (received : List ℕ) (limit budget : ℕ) (costs : List ℕ)
   -- For each prefix on the way, what a 0 after it costs.
   pub room : length costs ≡ 81
   pub costs-are : (j : ℕ) → j ≤ depth → getD costs j 0 ≡ zeroCost received j (number * span depth / span j)
-
--- A word is a prefix of 81 bits.
-word-at : (received : List ℕ) (word : ℕ) → disagreements received (prefixBits 81 (word / span 81)) ≡ wordDisagreements received word
-unfolding wordDisagreements
-word-at received word = rw (span-tail 81 (omega arith), div-one word)
 
 module _ {received : List ℕ} {limit budget : ℕ} where
   -- ---- Start
@@ -88,7 +84,7 @@ module _ {received : List ℕ} {limit budget : ℕ} where
       abbrev child : ℕ
       child = childOf depth number branch
 
-      pub branch-distance : distance + branchCost (getD costs depth 0) branch ≡ disagreements received (prefixBits (depth + 1) child)
+      branch-distance : distance + branchCost (getD costs depth 0) branch ≡ disagreements received (prefixBits (depth + 1) child)
       branch-distance =
           let step = disagreements-branch received depth number branch (w .long) (w .are-bits) (omega (arith, w .depth-most)) (w .number-below) h in
           rw (cost-is, w .distance-is) (sym step)
@@ -99,117 +95,115 @@ module _ {received : List ℕ} {limit budget : ℕ} where
       next-in : next < 2 ^ 50
       next-in = omega (arith, next-below depth number branch h, span-within depth number (w .number-below))
 
-      entered : (longer : ℕ) → longer ≡ distance + branchCost (getD costs depth 0) branch → longer ≤ limit
-          → live + 1 ≡ passedLive received limit (depth + 1) next next
-      entered longer e near =
-          let same : disagreements received (prefixBits (depth + 1) (next / span (depth + 1))) ≡ longer =
-          rw (next-child depth number branch h) (sym (e ∙ branch-distance)) in
-          rw (live-enter received limit depth first next (omega (arith, w .depth-most)) with-first (omega arith)) (ap (λ (n : ℕ). n + 1) (w .live-is))
+      -- The longer prefix has the disagreements that the search adds up.
+      module _ (longer : ℕ) (e : longer ≡ distance + branchCost (getD costs depth 0) branch) where
+        entered : longer ≤ limit → live + 1 ≡ passedLive received limit (depth + 1) next next
+        entered near =
+            let same : disagreements received (prefixBits (depth + 1) (next / span (depth + 1))) ≡ longer =
+            rw (next-child depth number branch h) (sym (e ∙ branch-distance)) in
+            rw (live-enter received limit depth first next (omega (arith, w .depth-most)) with-first (omega arith)) (ap (λ (n : ℕ). n + 1) (w .live-is))
 
-      -- More live prefixes than the budget.
-      pub walk-over : (longer : ℕ) → longer ≡ distance + branchCost (getD costs depth 0) branch → longer ≤ limit
-          → budget < live + 1 → budget < liveCount received limit
-      walk-over longer e near over =
-          omega (arith, entered longer e near, live-most received limit (depth + 1) next next next-in (omega (arith, next-in)))
+        -- More live prefixes than the budget.
+        pub walk-over : longer ≤ limit → budget < live + 1 → budget < liveCount received limit
+        walk-over near over =
+            omega (arith, entered near, live-most received limit (depth + 1) next next next-in (omega (arith, next-in)))
 
-      -- ---- Down a live branch
+        -- ---- Down a live branch
 
-      pub walk-down : (longer cost : ℕ) → longer ≡ distance + branchCost (getD costs depth 0) branch → longer ≤ limit → live + 1 ≤ budget
-          → depth < 80 → cost ≡ zeroCost received (depth + 1) child
-          → Walking received limit budget (set costs (depth + 1) cost) best (live + 1) (depth + 1) child longer 0
-      walk-down longer cost e near within before is-cost =
-          let stands : child * span (depth + 1) ≡ next = child-span depth number branch h in
-          let none : nextWord (depth + 1) child 0 ≡ next = next-none (depth + 1) child ∙ stands in
-          record {
-            long = w .long;
-            are-bits = w .are-bits;
-            depth-most = omega arith;
-            number-below = child-below depth number branch (w .number-below) h;
-            branch-most = omega arith;
-            distance-is = e ∙ branch-distance;
-            near = near;
-            live-is = rw (none, stands) (entered longer e near);
-            live-within = within;
-            best-is = rw none (w .best-is);
-            room = length-set costs (depth + 1) cost ∙ w .room;
-            costs-are =
-                λ j k.
-                equal-or-not j (depth + 1)
-                (λ here.
-                rw (here, first-of-span (depth + 1) child) (getD-set-same costs (depth + 1) cost 0 (omega (arith, w .room)) ∙ is-cost))
-                (λ earlier.
-                rw (stands, share-fewer j depth next first (omega arith) with-first)
-                (getD-set-other costs (depth + 1) j cost 0 (λ same. absurd (omega arith)) ∙ w .costs-are j (omega arith)));
-          }
+        pub walk-down : (cost : ℕ) → longer ≤ limit → live + 1 ≤ budget → depth < 80 → cost ≡ zeroCost received (depth + 1) child
+            → Walking received limit budget (set costs (depth + 1) cost) best (live + 1) (depth + 1) child longer 0
+        walk-down cost near within before is-cost =
+            let stands : child * span (depth + 1) ≡ next = child-span depth number branch h in
+            let none : nextWord (depth + 1) child 0 ≡ next = next-none (depth + 1) child ∙ stands in
+            record {
+              long = w .long;
+              are-bits = w .are-bits;
+              depth-most = omega arith;
+              number-below = child-below depth number branch (w .number-below) h;
+              branch-most = omega arith;
+              distance-is = e ∙ branch-distance;
+              near = near;
+              live-is = rw (none, stands) (entered near);
+              live-within = within;
+              best-is = rw none (w .best-is);
+              room = length-set costs (depth + 1) cost ∙ w .room;
+              costs-are =
+                  λ j k.
+                  equal-or-not j (depth + 1)
+                  (λ here.
+                  rw (here, first-of-span (depth + 1) child) (getD-set-same costs (depth + 1) cost 0 (omega (arith, w .room)) ∙ is-cost))
+                  (λ earlier.
+                  rw (stands, share-fewer j depth next first (omega arith) with-first)
+                  (getD-set-other costs (depth + 1) j cost 0 (λ same. absurd (omega arith)) ∙ w .costs-are j (omega arith)));
+            }
 
-      -- ---- Past a live word
+        -- ---- Past a live word
 
-      pub walk-word : (longer : ℕ) → longer ≡ distance + branchCost (getD costs depth 0) branch → longer ≤ limit → live + 1 ≤ budget
-          → 80 ≤ depth → Walking received limit budget costs (nearerOf best number longer) (live + 1) depth number distance (branch + 1)
-      walk-word longer e near within last =
-          let at-80 : depth ≡ 80 = omega (arith, w .depth-most) in
-          let zero-branch : branch ≡ 0 = omega (arith, branches-later depth (omega arith)) in
-          let one-more : nextWord depth number (branch + 1) ≡ next + 1 =
-          next-more depth number branch ∙ ap (λ (n : ℕ). next + n) (span-tail (depth + 1) (omega arith)) in
-          let word : next ≡ number = rw (zero-branch, next-none depth number, span-tail depth (omega arith)) (omega arith) in
-          let its : wordDisagreements received next ≡ longer =
-          sym (word-at received next)
-          ∙ ap (λ (k : ℕ). disagreements received (prefixBits (k + 1) (next / span (k + 1)))) (sym at-80)
-          ∙ rw (next-child depth number branch h) (sym (e ∙ branch-distance)) in
-          let counted : passedLive received limit (depth + 1) next next ≡ passedLive received limit depth first (next + span (depth + 1)) =
-          rw at-80 (live-whole received limit (nextWord 80 number branch) (nextWord 80 number branch) (nextWord 80 number branch + span 81)
-          ∙ live-leave received limit 80 (nextWord 80 number branch) (number * span 80) (rw at-80 at with-first)) in
-          record {
-            long = w .long;
-            are-bits = w .are-bits;
-            depth-most = w .depth-most;
-            number-below = w .number-below;
-            branch-most = omega arith;
-            distance-is = w .distance-is;
-            near = w .near;
-            live-is = rw (next-more depth number branch) (entered longer e near ∙ counted);
-            live-within = within;
-            best-is =
-                rw one-more
-                (subst (λ (n : ℕ). BestBelow received limit (next + 1) (nearerOf best n longer)) word
-                (best-takes received limit next longer best its near (w .best-is)));
-            room = w .room;
-            costs-are = w .costs-are;
-          }
+        pub walk-word : longer ≤ limit → live + 1 ≤ budget → 80 ≤ depth
+            → Walking received limit budget costs (bestWith best number longer) (live + 1) depth number distance (branch + 1)
+        walk-word near within last =
+            let at-80 : depth ≡ 80 = omega (arith, w .depth-most) in
+            let zero-branch : branch ≡ 0 = omega (arith, branches-later depth (omega arith)) in
+            let one-more : nextWord depth number (branch + 1) ≡ next + 1 =
+            next-more depth number branch ∙ ap (λ (n : ℕ). next + n) (span-tail (depth + 1) (omega arith)) in
+            let word : next ≡ number = rw (zero-branch, next-none depth number, span-tail depth (omega arith)) (omega arith) in
+            let its : wordDisagreements received next ≡ longer =
+            sym (word-at received next)
+            ∙ ap (λ (k : ℕ). disagreements received (prefixBits (k + 1) (next / span (k + 1)))) (sym at-80)
+            ∙ rw (next-child depth number branch h) (sym (e ∙ branch-distance)) in
+            let counted : passedLive received limit (depth + 1) next next ≡ passedLive received limit depth first (next + span (depth + 1)) =
+            rw at-80 (live-whole received limit (nextWord 80 number branch) (nextWord 80 number branch) (nextWord 80 number branch + span 81)
+            ∙ live-leave received limit 80 (nextWord 80 number branch) (number * span 80) (rw at-80 at with-first)) in
+            record {
+              long = w .long;
+              are-bits = w .are-bits;
+              depth-most = w .depth-most;
+              number-below = w .number-below;
+              branch-most = omega arith;
+              distance-is = w .distance-is;
+              near = w .near;
+              live-is = rw (next-more depth number branch) (entered near ∙ counted);
+              live-within = within;
+              best-is =
+                  rw one-more
+                  (subst (λ (n : ℕ). BestBelow received limit (next + 1) (bestWith best n longer)) word
+                  (best-takes received limit next longer best its near (w .best-is)));
+              room = w .room;
+              costs-are = w .costs-are;
+            }
 
-      -- ---- Past a branch that isn't live
+        -- ---- Past a branch that isn't live
 
-      pub walk-past : (longer : ℕ) → longer ≡ distance + branchCost (getD costs depth 0) branch → limit < longer
-          → Walking received limit budget costs best live depth number distance (branch + 1)
-      walk-past longer e far =
-          let stands : child * span (depth + 1) ≡ next = child-span depth number branch h in
-          let dead : limit < disagreements received (prefixBits (depth + 1) child) = omega (arith, e ∙ branch-distance) in
-          record {
-            long = w .long;
-            are-bits = w .are-bits;
-            depth-most = w .depth-most;
-            number-below = w .number-below;
-            branch-most = omega arith;
-            distance-is = w .distance-is;
-            near = w .near;
-            live-is =
-                rw (next-more depth number branch) (w .live-is ∙ sym (rw stands at (live-pass received limit depth first child dead)));
-            live-within = w .live-within;
-            best-is =
-                rw (next-more depth number branch)
-                (best-passes received limit next (next + span (depth + 1)) best (omega arith) (all-dead stands dead) (w .best-is));
-            room = w .room;
-            costs-are = w .costs-are;
-          }
-        where
-          -- No word with a prefix that isn't live is within the limit.
-          all-dead : child * span (depth + 1) ≡ next → limit < disagreements received (prefixBits (depth + 1) child)
-              → (word : ℕ) → next ≤ word → word < next + span (depth + 1) → limit < wordDisagreements received word
-          all-dead stands dead word from to =
-              let rest : child * span (depth + 1) + (word - next) ≡ word = omega arith in
-              let begins : word / span (depth + 1) ≡ child = rw rest at (within-span (depth + 1) child (word - next) (omega arith)) in
-              rw (← word-at received word)
-              (words-dead received limit (depth + 1) child word 81 begins dead (omega (arith, w .depth-most)) (omega arith))
+        pub walk-past : limit < longer → Walking received limit budget costs best live depth number distance (branch + 1)
+        walk-past far =
+            let stands : child * span (depth + 1) ≡ next = child-span depth number branch h in
+            let dead : limit < disagreements received (prefixBits (depth + 1) child) = omega (arith, e ∙ branch-distance) in
+            record {
+              long = w .long;
+              are-bits = w .are-bits;
+              depth-most = w .depth-most;
+              number-below = w .number-below;
+              branch-most = omega arith;
+              distance-is = w .distance-is;
+              near = w .near;
+              live-is =
+                  rw (next-more depth number branch) (w .live-is ∙ sym (rw stands at (live-pass received limit depth first child dead)));
+              live-within = w .live-within;
+              best-is =
+                  rw (next-more depth number branch)
+                  (best-passes received limit next (next + span (depth + 1)) best (omega arith) (all-dead stands dead) (w .best-is));
+              room = w .room;
+              costs-are = w .costs-are;
+            }
+          where
+            -- No word with a prefix that isn't live is within the limit.
+            all-dead : child * span (depth + 1) ≡ next → limit < disagreements received (prefixBits (depth + 1) child)
+                → (word : ℕ) → next ≤ word → word < next + span (depth + 1) → limit < wordDisagreements received word
+            all-dead stands dead word from to =
+                let rest : child * span (depth + 1) + (word - next) ≡ word = omega arith in
+                let begins : word / span (depth + 1) ≡ child = rw rest at (within-span (depth + 1) child (word - next) (omega arith)) in
+                rw (← word-at received word)
+                (words-dead received limit (depth + 1) child word 81 begins dead (omega (arith, w .depth-most)) (omega arith))
 
     -- ---- Back up
 
@@ -270,7 +264,7 @@ module _ {received : List ℕ} {limit budget : ℕ} where
 
     -- ---- End
 
-    pub walk-ends : depth ≡ 0 → branchesOf depth ≤ branch → Searched received limit budget (record { live = live; best = best })
+    pub walk-ends : depth ≡ 0 → branchesOf depth ≤ branch → SearchFound received limit budget (record { live = live; best = best })
     walk-ends e done =
         let at-end : branch ≡ branchesOf depth = omega (arith, w .branch-most) in
         let root : number ≡ 0 = omega (arith, rw (e, prefixes-root) at (w .number-below)) in

@@ -1,4 +1,5 @@
--- Demand 3 of an answer: when it is "out of budget", when it is a word and which, and that two flipped data bits at most are repaired.
+-- What is asked of an answer: what is refused before a search; and demand 3: when the answer is "out of budget", when it is a word and
+-- which, and that two flipped data bits at most are repaired.
 use mathlib.Core.Path.{_≡_}
 use mathlib.Core.Logic.{_↔_, _⊎_}
 use Prim.Native.Nat.{ℕ, _^_, _≤_, _<_}
@@ -24,7 +25,7 @@ pub record Bounds (limit budget : ℕ) : Type 0 where
 -- ---- What is refused before a search
 
 -- The first symbol above 3 stands at the place.
-pub record FirstLarge (frame : List ℕ) (place : ℕ) : Type 0 where
+pub record FirstLargeAt (frame : List ℕ) (place : ℕ) : Type 0 where
   pub within : place < length frame
   pub large : 3 < getD frame place 0
   pub none-before : (earlier : ℕ) → earlier < place → getD frame earlier 0 ≤ 3
@@ -39,7 +40,7 @@ pub record AsChecked (frame : List ℕ) (limit budget : ℕ) (answer : Repaired)
       ↔ ((length frame ≡ 162) × ((limit ≤ 12) × ((budget ≡ 0) ⊎ (65_536 < budget))))
   -- "a symbol is above 3": the first such
   pub large-symbol : (place : ℕ) → (answer ≡ Repaired.Refused (refusal symbolTooLarge place))
-      ↔ ((length frame ≡ 162) × (Bounds limit budget × FirstLarge frame place))
+      ↔ ((length frame ≡ 162) × (Bounds limit budget × FirstLargeAt frame place))
 
 -- ---- What is answered
 

@@ -18,8 +18,8 @@ unfoldable pub noneFound : ℕ → Best
 noneFound limit = record { word = 0; fewest = limit + 1; next = limit + 1 }
 
 -- With one word more, and its disagreements.
-unfoldable pub nearerOf : Best → ℕ → ℕ → Best
-nearerOf best word disagreements =
+unfoldable pub bestWith : Best → ℕ → ℕ → Best
+bestWith best word disagreements =
     cond (ltb disagreements (best .fewest)) (record { word = word; fewest = disagreements; next = best .fewest })
     (cond (ltb disagreements (best .next)) (record { word = best .word; fewest = best .fewest; next = disagreements })
     best)
@@ -42,7 +42,7 @@ pub record Received (received : List ℕ) : Type 0 where
   pub are-bits : (index : ℕ) → index < 162 → getD received index 0 < 2
 
 -- The count is above the budget only where the live count is; else it is the live count, and the record is that of all words.
-pub record Searched (received : List ℕ) (limit budget : ℕ) (found : Found) : Type 0 where
+pub record SearchFound (received : List ℕ) (limit budget : ℕ) (found : Found) : Type 0 where
   pub over-budget : budget < found .live → budget < liveCount received limit
   pub counted : found .live ≤ budget → found .live ≡ liveCount received limit
   pub best-of-all : found .live ≤ budget → BestBelow received limit (2 ^ 50) (found .best)

@@ -1,12 +1,13 @@
 // The nearest word so far.
 ghost use mathlib.Core.Path.{_≡_};
 ghost use Prim.Native.Nat.{_≤_};
-ghost use Rattle.repair.specs.Search.{noneFound, nearerOf};
+ghost use Rattle.repair.specs.Search.{noneFound, bestWith};
 
-// The nearest word so far, its disagreements, and the fewest of the others; one above the limit where there is none.
 pub(crate) struct Best {
     pub word: u64,
+    // Its disagreements, or one above the limit where no word within it was found.
     pub fewest: u32,
+    // The fewest of the other words, or one above the limit where no other within it was found.
     pub next: u32,
 }
 
@@ -23,8 +24,8 @@ pub(crate) fn none_found(limit: u32) -> Best
 }
 
 // The record with one word more.
-pub(crate) fn nearer(best: Best, word: u64, disagreements: u32) -> Best
-    ensures { λ r. ⌜ r ≡ nearerOf best word disagreements ⌝ }
+pub(crate) fn with_word(best: Best, word: u64, disagreements: u32) -> Best
+    ensures { λ r. ⌜ r ≡ bestWith best word disagreements ⌝ }
 {
     if disagreements < best.fewest {
         Best {

@@ -37,7 +37,7 @@ pub(crate) fn zero_cost(received: &[u8; 162], depth: usize, number: u64) -> u32
     )
 }
 
-// What a 0 after each prefix on the way costs, at the start of a search: the way has the empty prefix alone.
+// The costs at the start of a search: only that of a 0 after the empty prefix is known.
 pub(crate) fn root_costs(received: &[u8; 162]) -> [u32; 81]
     requires { ⌜ length (now received) ≡ 162 ⌝ }
     ensures { λ r. ⌜ r ≡ set (replicate 81 0) 0 (zeroCost (now (received .entry)) 0 0) ⌝ }

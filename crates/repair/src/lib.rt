@@ -33,7 +33,7 @@ pub enum Repaired {
     Refused(Refusal),
 }
 
-// 0 where the limit is past its end, 1 where the budget is out of its range, and 2 where neither is so.
+// 0 where the limit is above its range, 1 where the budget is out of its own, 2 where neither is.
 fn first_bad_bound(limit: u32, budget: u32) -> u32
     ensures { λ r. ⌜ r ≡ firstBadBound limit budget ⌝ }
 {
@@ -77,8 +77,8 @@ fn answer(found: Found, sync_wrong: u32, limit: u32, budget: u32) -> Repaired
     })
 }
 
-// The word that is nearest to the symbols of a frame, where one alone is and it is within the limit,
-// and the live count is within the budget.
+// The one word that is nearest to the symbols of a frame, if it is within the limit and the live count
+// within the budget; else why not.
 pub fn repair(frame: &[u8], limit: u32, budget: u32) -> Repaired
     ensures answer { λ r. ⌜ r ≡ repaired (now (frame .entry)) limit budget ⌝ }
     ensures checked { λ r. ⌜ AsChecked (now (frame .entry)) limit budget r ⌝ }

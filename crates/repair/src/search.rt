@@ -1,48 +1,52 @@
-// The search: every live prefix is visited once, depth first, and counted.
+// The search: live prefixes are visited depth first and counted, until all are or the budget is
+// passed.
 ghost use Prim.Native.Nat.{_≤_};
-ghost use Rattle.repair.specs.Search.{Received, Searched};
+ghost use Rattle.repair.specs.Search.{Received, SearchFound};
 use super::best;
 use super::best::Best;
 use super::cost;
 use super::prefix;
 
-// What a search found: the live count, or one above the budget, and the nearest word.
+// What a search found: the live count, or a number above the budget, and the nearest word.
 pub(crate) struct Found {
     pub live: u32,
     pub best: Best,
 }
 
-// Visits each live prefix, those that are longer after it, and leaves where there are more than the budget.
+// Visits each live prefix, a shorter one before the longer ones, and stops at once when they are more
+// than the budget.
 pub(crate) fn search(received: &[u8; 162], limit: u32, budget: u32) -> Found
     requires { ⌜ Received (now received) ⌝ }
     requires { ⌜ limit ≤ 12 ⌝ }
     requires { ⌜ budget ≤ 65_536 ⌝ }
-    ensures { λ r. ⌜ Searched (now (received .entry)) limit budget r ⌝ }
+    ensures { λ r. ⌜ SearchFound (now (received .entry)) limit budget r ⌝ }
 {
+    // The search stands at the prefix of `depth` bits with this number and these disagreements, and
+    // takes its branches from `branch` on. costs[d] is what a 0 adds after its first d bits.
     let mut costs = cost::root_costs(received);
     let mut best = best::none_found(limit);
     let mut live: u32 = 0;
     let mut depth = 0;
     let mut number: u64 = 0;
-    let mut distance: u32 = 0;
+    let mut disagreements: u32 = 0;
     let mut branch: u64 = 0;
     'depths: loop {
         while branch < prefix::branches(depth) {
-            let next = distance + cost::branch_cost(costs[depth], branch);
-            if next <= limit {
+            let longer = disagreements + cost::branch_cost(costs[depth], branch);
+            if longer <= limit {
                 live += 1;
                 if budget < live {
                     break 'depths;
                 }
                 if depth < 80 {
                     number = prefix::child(depth, number, branch);
-                    distance = next;
+                    disagreements = longer;
                     branch = 0;
                     depth += 1;
                     costs[depth] = cost::zero_cost(received, depth, number);
                     continue 'depths;
                 }
-                best = best::nearer(best, number, next);
+                best = best::with_word(best, number, longer);
             }
             branch += 1;
         }
@@ -52,7 +56,7 @@ pub(crate) fn search(received: &[u8; 162], limit: u32, budget: u32) -> Found
         depth -= 1;
         branch = prefix::last_branch(depth, number);
         number = prefix::parent(depth, number);
-        distance -= cost::branch_cost(costs[depth], branch);
+        disagreements -= cost::branch_cost(costs[depth], branch);
         branch += 1;
     }
     Found { live, best }

@@ -3,9 +3,7 @@
 use mathlib.Core.Path.{sym}
 use mathlib.Core.Logic.{inl, inr}
 use native.Mathlib.Omega.{arith}
-use mathlib.Core.List.{[]}
-use Rattle.repair.proofs.AnswerLaws.{no-bad-bound}
-use Rattle.repair.proofs.CheckLaws.{bad-limit-first, bad-budget-next}
+use Rattle.repair.proofs.BoundLaws.{bad-limit-first, bad-budget-next, no-bad-bound}
 use Rattle.repair.proofs.first_bad_bound.Statement.{statement}
 use Rattle.repair.proofs.first_bad_bound.Tie as tie
 
@@ -25,7 +23,7 @@ returns-3 c =
 returns-4 : tie.Need-returns-4
 returns-4 c =
     let a = c .before .before .before .args in
-    sym (no-bad-bound [] (a .limit) (a .budget)
+    sym (no-bad-bound (a .limit) (a .budget)
     (record { limit-to-12 = c .before .before .if1 .left; budget-from-1 = c .before .if2 .left; budget-to-65536 = c .if3 .left }))
 
 pub first-bad-bound-spec : {M : Type 1} → statement M

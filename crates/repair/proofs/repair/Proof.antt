@@ -7,7 +7,8 @@ use Rattle.frame.proofs.SymbolLaws.{symbols-of-test}
 use Rattle.repair.specs.Answer.{firstBadBound}
 use Rattle.repair.specs.Demand.{Bounds}
 use Rattle.repair.proofs.AnswerLaws.{repaired-searched}
-use Rattle.repair.proofs.CheckLaws.{repaired-length, repaired-bound, repaired-large, good-bounds}
+use Rattle.repair.proofs.CheckLaws.{repaired-length, repaired-bound, repaired-large}
+use Rattle.repair.proofs.BoundLaws.{good-bounds}
 use Rattle.repair.proofs.FoundLaws.{received-bits, found-answered}
 use Rattle.repair.proofs.Promises.{promised}
 use native.Mathlib.Omega.{arith}

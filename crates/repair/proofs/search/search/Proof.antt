@@ -22,20 +22,20 @@ falls : (live depth last branch head : ℕ) → 1 ≤ depth → live + depth * 3
 falls live depth last branch head longer h = omega arith
 
 abbrev Inv-loop : tie.InvT-loop
-Inv-loop received limit budget costs₀ best₀ live₀ depth₀ number₀ distance₀ branch₀ costs best live depth number distance branch =
-    Walking received limit budget costs best live depth number distance branch
+Inv-loop received limit budget costs₀ best₀ live₀ depth₀ number₀ disagreements₀ branch₀ costs best live depth number disagreements branch =
+    Walking received limit budget costs best live depth number disagreements branch
     × (left budget live depth branch ≤ left budget live₀ depth₀ branch₀)
 
 abbrev μ-loop : tie.MeasureT-loop
-μ-loop received limit budget costs₀ best₀ live₀ depth₀ number₀ distance₀ branch₀ costs best live depth number distance branch =
+μ-loop received limit budget costs₀ best₀ live₀ depth₀ number₀ disagreements₀ branch₀ costs best live depth number disagreements branch =
     left budget live depth branch
 
 abbrev Inv-depths : tie.InvT-depths
-Inv-depths received limit budget costs₀ best₀ live₀ depth₀ number₀ distance₀ branch₀ costs best live depth number distance branch =
-    Walking received limit budget costs best live depth number distance branch
+Inv-depths received limit budget costs₀ best₀ live₀ depth₀ number₀ disagreements₀ branch₀ costs best live depth number disagreements branch =
+    Walking received limit budget costs best live depth number disagreements branch
 
 abbrev μ-depths : tie.MeasureT-depths
-μ-depths received limit budget costs₀ best₀ live₀ depth₀ number₀ distance₀ branch₀ costs best live depth number distance branch =
+μ-depths received limit budget costs₀ best₀ live₀ depth₀ number₀ disagreements₀ branch₀ costs best live depth number disagreements branch =
     left budget live depth branch
 
 root-costs-requires : tie.Need-root-costs-requires Inv-loop μ-loop Inv-depths μ-depths
@@ -75,11 +75,11 @@ cost-adds c = rw (c .branch-cost .ensures) (branchCost-most _ _ (cost-most (c .b
 -- The disagreements of the longer prefix.
 longer : (c : tie.After-branch-cost Inv-loop μ-loop Inv-depths μ-depths)
     → let l = c .before .before .before in
-    l .loop .distance + c .branch-cost .result ≡ l .loop .distance + branchCost (getD (l .loop .costs) (l .loop .depth) 0) (l .loop .branch)
-longer c = ap (λ (n : ℕ). c .before .before .before .loop .distance + n) (c .branch-cost .ensures)
+    l .loop .disagreements + c .branch-cost .result ≡ l .loop .disagreements + branchCost (getD (l .loop .costs) (l .loop .depth) 0) (l .loop .branch)
+longer c = ap (λ (n : ℕ). c .before .before .before .loop .disagreements + n) (c .branch-cost .ensures)
 
-add-next : tie.Need-add-next Inv-loop μ-loop Inv-depths μ-depths
-add-next c =
+add-longer : tie.Need-add-longer Inv-loop μ-loop Inv-depths μ-depths
+add-longer c =
     let l = c .before .before .before in
     omega (arith, cost-adds c, l .loop .inv .0 .near, l .before .before .before .before .pre .1 .0)
 
@@ -114,12 +114,12 @@ depths-again c =
     let l = n .before .before .before in
     let is-child = c .before .child .ensures in
     rw is-child
-    (walk-down (l .loop .inv .0) (few (n .before)) _ (c .zero-cost .result) (longer n)
+    (walk-down (l .loop .inv .0) (few (n .before)) _ (longer n) (c .zero-cost .result)
     (omega (arith, c .before .before .before .before .if2 .taken)) (omega (arith, c .before .before .before .if3 .left))
     (omega (arith, c .before .before .if4 .taken)) (rw is-child at (c .zero-cost .ensures)))
 
-nearer-requires : tie.Need-nearer-requires Inv-loop μ-loop Inv-depths μ-depths
-nearer-requires c κs = search needs
+with-word-requires : tie.Need-with-word-requires Inv-loop μ-loop Inv-depths μ-depths
+with-word-requires c κs = search needs
 
 add-branch : tie.Need-add-branch Inv-loop μ-loop Inv-depths μ-depths
 add-branch c = omega (arith, few (c .before .before), branches-most (c .before .before .before .before .loop .depth))
@@ -129,7 +129,7 @@ passed : (c : tie.Joined2 Inv-loop μ-loop Inv-depths μ-depths)
     → let l = c .before .before .before .before in
     let a = l .before .before .before .before .args in
     Walking (a .received .now) (a .limit) (a .budget) (l .loop .costs) (c .if2 .best) (c .if2 .live) (l .loop .depth) (l .loop .number)
-    (l .loop .distance) (l .loop .branch + 1)
+    (l .loop .disagreements) (l .loop .branch + 1)
 passed c =
     let n = c .before in
     let w = n .before .before .before .loop .inv .0 in
@@ -185,8 +185,8 @@ branch-cost-requires-2 c κs =
     let l = e .before .before in
     up-most (l .loop .inv .0) (l .loop .depth - 1) (longer-than-none (c .before)) (all-taken e)
 
-sub-distance : tie.Need-sub-distance Inv-loop μ-loop Inv-depths μ-depths
-sub-distance c =
+sub-disagreements : tie.Need-sub-disagreements Inv-loop μ-loop Inv-depths μ-depths
+sub-disagreements c =
     let e = c .before .before .before .before in
     let l = e .before .before in
     rw (c .branch-cost2 .ensures, c .before .before .last-branch .ensures)
@@ -236,7 +236,7 @@ search-spec =
     mul-branch-cost
     array-read-branch-cost
     branch-cost-requires
-    add-next
+    add-longer
     add-live
     child-requires
     add-depth
@@ -245,7 +245,7 @@ search-spec =
     array-write-costs
     depths-less
     depths-again
-    nearer-requires
+    with-word-requires
     add-branch
     loop-less
     loop-again
@@ -255,7 +255,7 @@ search-spec =
     mul-branch-cost-2
     array-read-branch-cost-2
     branch-cost-requires-2
-    sub-distance
+    sub-disagreements
     add-branch-2
     depths-less-2
     depths-again-2
