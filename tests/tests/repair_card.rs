@@ -487,7 +487,8 @@ fn refusals_come_in_their_order() {
         for _ in 0..200 {
             let asked = asked_with_faults(&mut check.rng, faults);
             let found = check.repair(&asked.symbols, asked.limit, asked.budget);
-            let first = asked.refusal.as_ref().map_or((0, 0), |refusal| (refusal.number, refusal.place));
+            let first =
+                asked.refusal.as_ref().map_or((0, 0), |refusal| (refusal.number, refusal.place));
             assert_eq!((found.refusal, found.place), first, "faults {faults:b}: {asked:?}");
         }
     }

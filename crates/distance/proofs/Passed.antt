@@ -17,7 +17,7 @@ use Rattle.distance.proofs.Spans.{span, span-positive, parts, parts-spa
 use Rattle.distance.proofs.PrefixLaws.{live-within, not-live, disagreements-along}
 
 -- How many prefixes of k bits are passed.
-unfoldable pub passedAt : ℕ → ℕ → ℕ → ℕ → ℕ
+passedAt : ℕ → ℕ → ℕ → ℕ → ℕ
 passedAt depth first next k = cond (leb k depth) (first / span k + 1) (next / span k)
 
 module _ (depth first next k : ℕ) where
@@ -33,7 +33,7 @@ module _ (depth first next k : ℕ) where
 
 -- One prefix longer: that one is passed. The next word begins with the prefix that the search stands at.
 module _ (depth first next k : ℕ) (with-first : next / span depth ≡ first / span depth) where
-  pub enter-others : (k ≡ depth + 1 → ⊥) → passedAt (depth + 1) next next k ≡ passedAt depth first next k
+  enter-others : (k ≡ depth + 1 → ⊥) → passedAt (depth + 1) next next k ≡ passedAt depth first next k
   enter-others other =
       below-or-not depth k
       (λ longer.
@@ -44,13 +44,13 @@ module _ (depth first next k : ℕ) (with-first : next / span depth ≡ first / 
       ∙ ap (λ (n : ℕ). n + 1) (share-fewer k depth next first shorter with-first)
       ∙ sym (passed-shorter depth first next k shorter))
 
-pub enter-one : (depth first next : ℕ) → passedAt (depth + 1) next next (depth + 1) ≡ passedAt depth first next (depth + 1) + 1
+enter-one : (depth first next : ℕ) → passedAt (depth + 1) next next (depth + 1) ≡ passedAt depth first next (depth + 1) + 1
 enter-one depth first next =
     passed-shorter (depth + 1) next next (depth + 1) (omega arith)
     ∙ ap (λ (n : ℕ). n + 1) (sym (passed-longer depth first next (depth + 1) (omega arith)))
 
 -- One prefix shorter, once all words with the longer one are passed.
-pub leave : (depth first parent k : ℕ) → first / span depth ≡ parent / span depth
+leave : (depth first parent k : ℕ) → first / span depth ≡ parent / span depth
     → passedAt (depth + 1) first (first + span (depth + 1)) k ≡ passedAt depth parent (first + span (depth + 1)) k
 leave depth first parent k with-parent =
     let next = first + span (depth + 1) in
@@ -69,10 +69,10 @@ leave depth first parent k with-parent =
     ∙ sym (passed-shorter depth parent next k shorter))
 
 -- All words with a prefix passed at once: of the shorter prefixes none is passed, of the others those with these words.
-pub pass-shorter : (depth first next more k : ℕ) → k ≤ depth → passedAt depth first (next + more) k ≡ passedAt depth first next k
+pass-shorter : (depth first next more k : ℕ) → k ≤ depth → passedAt depth first (next + more) k ≡ passedAt depth first next k
 pass-shorter depth first next more k h = passed-shorter depth first (next + more) k h ∙ sym (passed-shorter depth first next k h)
 
-pub pass-longer : (depth first next k : ℕ) → depth < k
+pass-longer : (depth first next k : ℕ) → depth < k
     → passedAt depth first (next + span (depth + 1)) k ≡ passedAt depth first next k + parts (depth + 1) k
 pass-longer depth first next k h =
     passed-longer depth first (next + span (depth + 1)) k h
@@ -81,7 +81,7 @@ pass-longer depth first next k h =
     ∙ ap (λ (n : ℕ). n + parts (depth + 1) k) (sym (passed-longer depth first next k h))
 
 -- No more are passed than there are.
-pub passed-most : (depth first next k : ℕ) → first < 2 ^ 50 → next ≤ 2 ^ 50 → passedAt depth first next k ≤ prefixesOf k
+passed-most : (depth first next k : ℕ) → first < 2 ^ 50 → next ≤ 2 ^ 50 → passedAt depth first next k ≤ prefixesOf k
 passed-most depth first next k h l =
     below-or-not depth k
     (λ longer. rw (passed-longer depth first next k longer) (prefixes-most k next l))
@@ -93,14 +93,20 @@ module _ (received : List ℕ) (limit : ℕ) where
   abbrev alive : ℕ → ℕ → Bool
   alive k number = isLive received limit (prefixBits k number)
 
-  unfoldable pub passedLive : ℕ → ℕ → ℕ → ℕ
-  passedLive depth first next = sumBelow 81 (λ i. countBelow (passedAt depth first next (i + 1)) (alive (i + 1)))
+  -- How many live prefixes are passed, of one length and of all.
+  abbrev liveAt : ℕ → ℕ → ℕ → ℕ → ℕ
+  liveAt depth first next i = countBelow (passedAt depth first next (i + 1)) (alive (i + 1))
 
-  passed-same : (d f n d' f' n' : ℕ) → ((k : ℕ) → passedAt d f n k ≡ passedAt d' f' n' k) → passedLive d f n ≡ passedLive d' f' n'
+  pub passedLive : ℕ → ℕ → ℕ → ℕ
+  passedLive depth first next = sumBelow 81 (liveAt depth first next)
+
+  -- Where as many are passed, as many live ones are.
+  at-bound : (i : ℕ) {m n : ℕ} → m ≡ n → countBelow m (alive (i + 1)) ≡ countBelow n (alive (i + 1))
+  at-bound i e = ap (λ (bound : ℕ). countBelow bound (alive (i + 1))) e
+
+  passed-same : (d f n d' f' n' : ℕ) → ((k : ℕ) → k ≤ 81 → passedAt d f n k ≡ passedAt d' f' n' k) → passedLive d f n ≡ passedLive d' f' n'
   unfolding passedLive
-  passed-same d f n d' f' n' same =
-      sum-same 81 (λ i. countBelow (passedAt d f n (i + 1)) (alive (i + 1))) (λ i. countBelow (passedAt d' f' n' (i + 1)) (alive (i + 1)))
-      (λ i h. ap (λ (bound : ℕ). countBelow bound (alive (i + 1))) (same (i + 1)))
+  passed-same d f n d' f' n' same = sum-same 81 (liveAt d f n) (liveAt d' f' n') (λ i h. at-bound i (same (i + 1) (omega arith)))
 
   -- A live prefix is counted as it is entered.
   pub live-enter : (depth first next : ℕ) → depth < 81 → next / span depth ≡ first / span depth
@@ -108,82 +114,75 @@ module _ (received : List ℕ) (limit : ℕ) where
       → passedLive (depth + 1) next next ≡ passedLive depth first next + 1
   unfolding passedLive
   live-enter depth first next h with-first near =
-      sum-raised 81 (λ i. countBelow (passedAt (depth + 1) next next (i + 1)) (alive (i + 1)))
-      (λ i. countBelow (passedAt depth first next (i + 1)) (alive (i + 1))) depth h
-      (ap (λ (bound : ℕ). countBelow bound (alive (depth + 1))) (enter-one depth first next)
+      sum-raised 81 (liveAt (depth + 1) next next) (liveAt depth first next) depth h
+      (at-bound depth (enter-one depth first next)
       ∙ count-raised (passedAt depth first next (depth + 1)) (alive (depth + 1))
       (rw (passed-longer depth first next (depth + 1) (omega arith)) (live-within received limit (prefixBits (depth + 1) (next / span (depth + 1))) near)))
-      (λ i k other.
-      ap (λ (bound : ℕ). countBelow bound (alive (i + 1))) (enter-others depth first next (i + 1) with-first (λ same. other (omega arith))))
+      (λ i k other. at-bound i (enter-others depth first next (i + 1) with-first (λ same. other (omega arith))))
 
   pub live-leave : (depth first parent : ℕ) → first / span depth ≡ parent / span depth
       → passedLive (depth + 1) first (first + span (depth + 1)) ≡ passedLive depth parent (first + span (depth + 1))
   live-leave depth first parent with-parent =
-      passed-same (depth + 1) first (first + span (depth + 1)) depth parent (first + span (depth + 1)) (λ k. leave depth first parent k with-parent)
+      passed-same (depth + 1) first (first + span (depth + 1)) depth parent (first + span (depth + 1)) (λ k h. leave depth first parent k with-parent)
 
   -- At a whole word every prefix is one that isn't longer.
   pub live-whole : (first next other : ℕ) → passedLive 81 first next ≡ passedLive 81 first other
-  unfolding passedLive
   live-whole first next other =
-      sum-same 81 (λ i. countBelow (passedAt 81 first next (i + 1)) (alive (i + 1))) (λ i. countBelow (passedAt 81 first other (i + 1)) (alive (i + 1)))
-      (λ i h.
-      ap (λ (bound : ℕ). countBelow bound (alive (i + 1)))
-      (passed-shorter 81 first next (i + 1) (omega arith) ∙ sym (passed-shorter 81 first other (i + 1) (omega arith))))
+      passed-same 81 first next 81 first other (λ k h. passed-shorter 81 first next k h ∙ sym (passed-shorter 81 first other k h))
 
   -- Below a prefix that isn't live nothing is.
-  pub words-dead : (depth number word k : ℕ) → word / span depth ≡ number → limit < disagreements received (prefixBits depth number)
+  pub words-not-live : (depth number word k : ℕ) → word / span depth ≡ number → limit < disagreements received (prefixBits depth number)
       → depth ≤ k → k ≤ 81 → limit < disagreements received (prefixBits k (word / span k))
   unfolding span
-  words-dead depth number word k same far h most =
+  words-not-live depth number word k same far h most =
       let along = disagreements-along received depth k word h most in
       let begins : disagreements received (prefixBits depth (word / span depth)) ≡ disagreements received (prefixBits depth number) =
       ap (λ (n : ℕ). disagreements received (prefixBits depth n)) same in
       omega arith
 
   module _ (depth first number : ℕ) (far : limit < disagreements received (prefixBits (depth + 1) number)) where
-    part-dead : (k i : ℕ) → depth < k → k ≤ 81 → i < parts (depth + 1) k → alive k (number * span (depth + 1) / span k + i) ≡ false
-    part-dead k i h most small =
+    part-not-live : (k i : ℕ) → depth < k → k ≤ 81 → i < parts (depth + 1) k → alive k (number * span (depth + 1) / span k + i) ≡ false
+    part-not-live k i h most small =
         let next = number * span (depth + 1) in
         let rest : i * span k < span (depth + 1) = rw (← parts-span (depth + 1) k (omega arith)) (mul-lt-mul-of-pos-right small (span-positive k)) in
         not-live received limit (prefixBits k (next / span k + i))
         (rw (add-mul-div-right next i (span-positive k)) at
-        (words-dead (depth + 1) number (next + i * span k) k (within-span (depth + 1) number (i * span k) rest) far (omega arith) most))
+        (words-not-live (depth + 1) number (next + i * span k) k (within-span (depth + 1) number (i * span k) rest) far (omega arith) most))
 
     pub live-pass : passedLive depth first (number * span (depth + 1) + span (depth + 1)) ≡ passedLive depth first (number * span (depth + 1))
     unfolding passedLive
     live-pass =
         let next = number * span (depth + 1) in
-        sum-same 81 (λ i. countBelow (passedAt depth first (next + span (depth + 1)) (i + 1)) (alive (i + 1)))
-        (λ i. countBelow (passedAt depth first next (i + 1)) (alive (i + 1)))
+        sum-same 81 (liveAt depth first (next + span (depth + 1))) (liveAt depth first next)
         (λ i h.
         below-or-not depth (i + 1)
         (λ longer.
-        ap (λ (bound : ℕ). countBelow bound (alive (i + 1))) (pass-longer depth first next (i + 1) longer)
+        at-bound i (pass-longer depth first next (i + 1) longer)
         ∙ count-append (passedAt depth first next (i + 1)) (parts (depth + 1) (i + 1)) (alive (i + 1))
-        ∙ ap (λ (n : ℕ). countBelow (passedAt depth first next (i + 1)) (alive (i + 1)) + n)
+        ∙ ap (λ (n : ℕ). liveAt depth first next i + n)
         (count-none (parts (depth + 1) (i + 1)) (λ j. alive (i + 1) (passedAt depth first next (i + 1) + j))
-        (λ j small. rw (passed-longer depth first next (i + 1) longer) (part-dead (i + 1) j longer (omega arith) small)))
+        (λ j small. rw (passed-longer depth first next (i + 1) longer) (part-not-live (i + 1) j longer (omega arith) small)))
         ∙ omega arith)
-        (λ shorter. ap (λ (bound : ℕ). countBelow bound (alive (i + 1))) (pass-shorter depth first next (span (depth + 1)) (i + 1) shorter)))
+        (λ shorter. at-bound i (pass-shorter depth first next (span (depth + 1)) (i + 1) shorter)))
 
   -- The whole count: none before the search, all after it, and never more.
   pub live-starts : passedLive 0 0 0 ≡ 0
   unfolding passedLive
   live-starts =
-      sum-same 81 (λ i. countBelow (passedAt 0 0 0 (i + 1)) (alive (i + 1))) (λ i. 0)
+      sum-same 81 (liveAt 0 0 0) (λ i. 0)
       (λ i h.
-      ap (λ (bound : ℕ). countBelow bound (alive (i + 1))) (passed-longer 0 0 0 (i + 1) (omega arith) ∙ zero-div (span (i + 1)))
+      at-bound i (passed-longer 0 0 0 (i + 1) (omega arith) ∙ zero-div (span (i + 1)))
       ∙ count-none 0 (alive (i + 1)) (λ j k. absurd (omega arith)))
       ∙ sum-zero 81
 
   pub live-ends : passedLive 0 0 (2 ^ 50) ≡ liveCount received limit
   unfolding passedLive liveCount liveOf
   live-ends =
-      sum-same 81 (λ i. countBelow (passedAt 0 0 (2 ^ 50) (i + 1)) (alive (i + 1))) (λ i. liveOf received limit (i + 1))
-      (λ i h. ap (λ (bound : ℕ). countBelow bound (alive (i + 1))) (passed-longer 0 0 (2 ^ 50) (i + 1) (omega arith) ∙ prefix-count (i + 1)))
+      sum-same 81 (liveAt 0 0 (2 ^ 50)) (λ i. liveOf received limit (i + 1))
+      (λ i h. at-bound i (passed-longer 0 0 (2 ^ 50) (i + 1) (omega arith) ∙ prefix-count (i + 1)))
 
   pub live-most : (depth first next : ℕ) → first < 2 ^ 50 → next ≤ 2 ^ 50 → passedLive depth first next ≤ liveCount received limit
   unfolding passedLive liveCount liveOf
   live-most depth first next h l =
-      sum-le 81 (λ i. countBelow (passedAt depth first next (i + 1)) (alive (i + 1))) (λ i. liveOf received limit (i + 1))
+      sum-le 81 (liveAt depth first next) (λ i. liveOf received limit (i + 1))
       (λ i k. count-up-to (passedAt depth first next (i + 1)) (prefixesOf (i + 1)) (alive (i + 1)) (passed-most depth first next (i + 1) h l))

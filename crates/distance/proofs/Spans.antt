@@ -21,7 +21,7 @@ unfolding span
 span-positive k = pow-pos (50 - k)
 
 -- Each bit of the word halves them; the bits of the tail don't.
-pub span-half : (k : ℕ) → k < 50 → span k ≡ 2 * span (k + 1)
+span-half : (k : ℕ) → k < 50 → span k ≡ 2 * span (k + 1)
 unfolding span
 span-half k h =
     let more : 50 - k ≡ suc (50 - (k + 1)) = omega arith in
@@ -44,7 +44,7 @@ parts-span j k h =
 -- ---- Prefixes of words
 
 -- The prefix of a prefix.
-pub shorter : (j k word : ℕ) → j ≤ k → word / span j ≡ word / span k / parts j k
+shorter : (j k word : ℕ) → j ≤ k → word / span j ≡ word / span k / parts j k
 unfolding parts span
 shorter j k word h =
     let all : 50 - k + (50 - j - (50 - k)) ≡ 50 - j = omega arith in
@@ -64,7 +64,7 @@ first-of-span k number = mul-div-cancel number (span-positive k)
 -- ---- Branches
 
 module _ (k : ℕ) where
-  pub branches-span : branchesOf k * span (k + 1) ≡ span k
+  branches-span : branchesOf k * span (k + 1) ≡ span k
   branches-span =
       below-or-not k 50
       (λ first. rw (branches-first k first) (sym (span-half k first)))
@@ -129,7 +129,7 @@ module _ (k number : ℕ) where
 -- ---- All words
 
 -- All prefixes of k bits have all words.
-pub all-spans : (k : ℕ) → prefixesOf k * span k ≡ 2 ^ 50
+all-spans : (k : ℕ) → prefixesOf k * span k ≡ 2 ^ 50
 unfolding prefixesOf span freeOf
 all-spans k =
     let all : min k 50 + (50 - k) ≡ 50 = omega arith in

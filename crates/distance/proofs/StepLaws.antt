@@ -117,7 +117,7 @@ zero-longer k number h =
     rw (free-later (k + 1) (omega arith), free-later k h, more, ← replicate-append-replicate {A = ℕ} (k - 50) 1 0)
     (sym (append-assoc (bitsOf 50 number) (replicate (k - 50) 0) (0 ∷ [])))
 
-pub prefix-child : (k number branch : ℕ) → branch < branchesOf k
+prefix-child : (k number branch : ℕ) → branch < branchesOf k
     → prefixBits (k + 1) (childOf k number branch) ≡ prefixBits k number ++ (branch ∷ [])
 prefix-child k number branch b =
     below-or-not k 50
@@ -155,7 +155,7 @@ register-zeros n (suc j) =
     ∙ rw (add-zero (n * 2), pow-suc 2 j, mul-comm (2 ^ j) 2, ← mul-assoc n 2 (2 ^ j))
 
 -- The register after a prefix, whose number has no bits but the prefix's.
-pub register-prefix : (k number : ℕ) → number < prefixesOf k → registerAfter 0 (prefixBits k number) ≡ registerOf k number
+register-prefix : (k number : ℕ) → number < prefixesOf k → registerAfter 0 (prefixBits k number) ≡ registerOf k number
 unfolding prefixBits prefixesOf registerOf bitsOf numberOf
 register-prefix k number h =
     let free = freeOf k in

@@ -19,7 +19,7 @@ use Rattle.frame.proofs.SymbolLaws.{none-large}
 use Rattle.distance.specs.Prefixes.{liveCount}
 use Rattle.distance.specs.Nearest.{fewest, sharing, nearest}
 use Rattle.distance.proofs.NearestLaws.{fewest-below, fewest-reached, fewest-is, fewest-only, sharing-only, nearest-only, only-nearest, sharing-two, two-sharing}
-use Rattle.repair.specs.Answer.{wrongSyncIn, nearestOf, nearestWithin, searched, repaired, repairNumbers}
+use Rattle.repair.specs.Answer.{wrongSyncIn, answerWith, nearestOf, nearestWithin, searched, repaired, repairNumbers}
 use Rattle.repair.specs.Demand.{Bounds, IsNearest, NoneWithin, Shared, AsDemanded}
 use Rattle.repair.specs.declared.Nearest.{Nearest}
 use Rattle.repair.specs.declared.Repaired.{Repaired}
@@ -130,7 +130,7 @@ module _ (frame : List ℕ) (limit budget : ℕ) where
   -- ---- The nearest word
 
   nearestOf-is : fewest received ≤ limit → sharing received ≤ 1 → IsNearest frame limit (nearestOf frame limit)
-  unfolding nearestOf
+  unfolding nearestOf answerWith
   nearestOf-is near one =
       let only = only-nearest received one in
       record {
@@ -142,7 +142,7 @@ module _ (frame : List ℕ) (limit budget : ℕ) where
       }
 
   is-nearestOf : (n : Nearest) → IsNearest frame limit n → nearestOf frame limit ≡ n
-  unfolding nearestOf
+  unfolding nearestOf answerWith
   is-nearestOf n is =
       let only = is .only-nearest in
       let few = fewest-only received (n .word) only in

@@ -153,6 +153,7 @@ module _ (frame : List ℕ) (limit budget : ℕ) where
       (λ long bad. differs _ _ (λ same. omega (arith, same .0)))
       (λ long bounds first e. (long, (bounds, rw (place-same _ _ e) at first)))
       (λ right bounds. not-searched _ (omega arith))
+
   symbol-refused : (place : ℕ) → (length frame ≡ 162) × (Bounds limit budget × FirstLargeAt frame place)
       → repaired frame limit budget ≡ Repaired.Refused (refusal symbolTooLarge place)
   symbol-refused place (long, (bounds, first)) =

@@ -14,7 +14,7 @@ use Rattle.distance.specs.Prefixes.{wordDisagreements, liveCount}
 use Rattle.distance.specs.Nearest.{AtMostAll, OnlyNearest}
 use Rattle.repair.specs.Answer.{wrongSyncIn, searched}
 use Rattle.repair.specs.Demand.{IsNearest, Shared}
-use Rattle.repair.specs.Search.{BestBelow, Received, SearchFound, answerOf}
+use Rattle.repair.specs.Search.{BestBelow, Received, SearchFound, nearestIn, answerOf}
 use Rattle.repair.specs.declared.best.Best.{Best}
 use Rattle.repair.specs.declared.search.Found.{Found}
 use Rattle.repair.specs.declared.Nearest.{Nearest}
@@ -37,9 +37,6 @@ module _ (found : Found) (wrong limit budget : ℕ) where
   abbrev best : Best
   best = found .best
 
-  abbrev given : Nearest
-  given = record { word = best .word; disagreements = best .fewest; live = found .live; «sync_wrong» = wrong }
-
   pub answer-over : budget < found .live → answerOf found wrong limit budget ≡ Repaired.Refused (refusal overBudget 0)
   unfolding answerOf
   answer-over over = rw (lt-ltb budget (found .live) over)
@@ -55,7 +52,7 @@ module _ (found : Found) (wrong limit budget : ℕ) where
       answer-shared shared =
           rw (le-ltb budget (found .live) within, le-ltb limit (best .fewest) near, le-leb (best .next) (best .fewest) shared)
 
-      pub answer-word : best .fewest < best .next → answerOf found wrong limit budget ≡ Repaired.Word given
+      pub answer-word : best .fewest < best .next → answerOf found wrong limit budget ≡ Repaired.Word (nearestIn found wrong)
       unfolding answerOf
       answer-word alone =
           rw (le-ltb budget (found .live) within, le-ltb limit (best .fewest) near, lt-leb (best .next) (best .fewest) alone)
@@ -63,15 +60,15 @@ module _ (found : Found) (wrong limit budget : ℕ) where
 -- ---- What the record of all words says of the nearest
 
 module _ (received : List ℕ) (limit : ℕ) (best : Best) (b : BestBelow received limit (2 ^ 50) best) where
-  at-most : best .fewest ≤ limit → (word : ℕ) → word < 2 ^ 50 → wordDisagreements received word ≡ best .fewest → AtMostAll received word
-  at-most near word h e = (h, λ other k. omega (arith, b .fewest-least other k))
+  at-most : (word : ℕ) → word < 2 ^ 50 → wordDisagreements received word ≡ best .fewest → AtMostAll received word
+  at-most word h e = (h, λ other k. omega (arith, b .fewest-least other k))
 
-  pub best-only : best .fewest ≤ limit → best .fewest < best .next → OnlyNearest received (best .word)
+  best-only : best .fewest ≤ limit → best .fewest < best .next → OnlyNearest received (best .word)
   best-only near alone =
       let found = b .fewest-found near in
       (found .0, λ other h different. omega (arith, b .next-least other h different, found .1))
 
-  pub best-shared : best .fewest ≤ limit → best .next ≤ best .fewest → Shared received limit
+  best-shared : best .fewest ≤ limit → best .next ≤ best .fewest → Shared received limit
   best-shared near shared =
       let one = b .fewest-found near in
       let another = b .next-found (omega arith) in
@@ -80,8 +77,8 @@ module _ (received : List ℕ) (limit : ℕ) (best : Best) (b : BestBelow receiv
         one = best .word;
         another = another .0;
         different = λ same. another .1 .1 .0 (sym same);
-        one-fewest = at-most near (best .word) (one .0) (one .1);
-        another-fewest = at-most near (another .0) (another .1 .0) as-few;
+        one-fewest = at-most (best .word) (one .0) (one .1);
+        another-fewest = at-most (another .0) (another .1 .0) as-few;
         within-limit = omega (arith, one .1);
       }
 
@@ -93,7 +90,8 @@ module _ (frame : List ℕ) (limit budget : ℕ) (found : Found) (wrong : ℕ) (
   live-counted within = omega (arith, s .counted within)
 
   is-nearest : (within : found .live ≤ budget) → found .best .fewest ≤ limit → found .best .fewest < found .best .next
-      → IsNearest frame limit (given found wrong limit budget)
+      → IsNearest frame limit (nearestIn found wrong)
+  unfolding nearestIn
   is-nearest within near alone =
       let b = s .best-of-all within in
       record {

@@ -13,7 +13,7 @@ use Rattle.distance.specs.Steps.{branchesOf, childOf, parentOf, lastBranch, zer
 use Rattle.distance.proofs.Bits.{AllBits, bits-each}
 use Rattle.distance.proofs.PrefixLaws.{prefixes-root, prefixes-positive, prefixes-all}
 use Rattle.distance.proofs.Spans.{span, span-tail, span-within, span-root, share-fewer, within-span, first-of-span, child-span, nextWord, next-none, next-more, next-all, next-prefix, next-child, next-below, parent-span, parent-begins, word-at}
-use Rattle.distance.proofs.Passed.{passedLive, live-enter, live-whole, live-leave, words-dead, live-pass, live-starts, live-ends, live-most}
+use Rattle.distance.proofs.Passed.{passedLive, live-enter, live-whole, live-leave, words-not-live, live-pass, live-starts, live-ends, live-most}
 use Rattle.distance.proofs.StepLaws.{branches-later, child-below, parent-below, last-below, child-parent, prefix-empty, zeroCost-most, disagreements-branch}
 use Rattle.repair.specs.Search.{noneFound, bestWith, BestBelow, Received, SearchFound}
 use Rattle.repair.specs.declared.best.Best.{Best}
@@ -137,15 +137,34 @@ module _ {received : List ℕ} {limit budget : ℕ} where
                   (getD-set-other costs (depth + 1) j cost 0 (λ same. absurd (omega arith)) ∙ w .costs-are j (omega arith)));
             }
 
-        -- ---- Past a live word
+        -- ---- Past a branch
 
+        -- What a branch that is passed doesn't change.
+        passing : (more : Best) (count : ℕ) → count ≡ passedLive received limit depth first (next + span (depth + 1)) → count ≤ budget
+            → BestBelow received limit (next + span (depth + 1)) more
+            → Walking received limit budget costs more count depth number distance (branch + 1)
+        passing more count counted within all =
+            record {
+              long = w .long;
+              are-bits = w .are-bits;
+              depth-most = w .depth-most;
+              number-below = w .number-below;
+              branch-most = omega arith;
+              distance-is = w .distance-is;
+              near = w .near;
+              live-is = rw (next-more depth number branch) counted;
+              live-within = within;
+              best-is = rw (next-more depth number branch) all;
+              room = w .room;
+              costs-are = w .costs-are;
+            }
+
+        -- Past a live word.
         pub walk-word : longer ≤ limit → live + 1 ≤ budget → 80 ≤ depth
             → Walking received limit budget costs (bestWith best number longer) (live + 1) depth number distance (branch + 1)
         walk-word near within last =
             let at-80 : depth ≡ 80 = omega (arith, w .depth-most) in
             let zero-branch : branch ≡ 0 = omega (arith, branches-later depth (omega arith)) in
-            let one-more : nextWord depth number (branch + 1) ≡ next + 1 =
-            next-more depth number branch ∙ ap (λ (n : ℕ). next + n) (span-tail (depth + 1) (omega arith)) in
             let word : next ≡ number = rw (zero-branch, next-none depth number, span-tail depth (omega arith)) (omega arith) in
             let its : wordDisagreements received next ≡ longer =
             sym (word-at received next)
@@ -154,56 +173,28 @@ module _ {received : List ℕ} {limit budget : ℕ} where
             let counted : passedLive received limit (depth + 1) next next ≡ passedLive received limit depth first (next + span (depth + 1)) =
             rw at-80 (live-whole received limit (nextWord 80 number branch) (nextWord 80 number branch) (nextWord 80 number branch + span 81)
             ∙ live-leave received limit 80 (nextWord 80 number branch) (number * span 80) (rw at-80 at with-first)) in
-            record {
-              long = w .long;
-              are-bits = w .are-bits;
-              depth-most = w .depth-most;
-              number-below = w .number-below;
-              branch-most = omega arith;
-              distance-is = w .distance-is;
-              near = w .near;
-              live-is = rw (next-more depth number branch) (entered near ∙ counted);
-              live-within = within;
-              best-is =
-                  rw one-more
-                  (subst (λ (n : ℕ). BestBelow received limit (next + 1) (bestWith best n longer)) word
-                  (best-takes received limit next longer best its near (w .best-is)));
-              room = w .room;
-              costs-are = w .costs-are;
-            }
+            let one-more : next + span (depth + 1) ≡ next + 1 = ap (λ (n : ℕ). next + n) (span-tail (depth + 1) (omega arith)) in
+            passing (bestWith best number longer) (live + 1) (entered near ∙ counted) within
+            (rw one-more
+            (subst (λ (n : ℕ). BestBelow received limit (next + 1) (bestWith best n longer)) word
+            (best-takes received limit next longer best its near (w .best-is))))
 
-        -- ---- Past a branch that isn't live
-
+        -- Past a branch that isn't live.
         pub walk-past : limit < longer → Walking received limit budget costs best live depth number distance (branch + 1)
         walk-past far =
             let stands : child * span (depth + 1) ≡ next = child-span depth number branch h in
-            let dead : limit < disagreements received (prefixBits (depth + 1) child) = omega (arith, e ∙ branch-distance) in
-            record {
-              long = w .long;
-              are-bits = w .are-bits;
-              depth-most = w .depth-most;
-              number-below = w .number-below;
-              branch-most = omega arith;
-              distance-is = w .distance-is;
-              near = w .near;
-              live-is =
-                  rw (next-more depth number branch) (w .live-is ∙ sym (rw stands at (live-pass received limit depth first child dead)));
-              live-within = w .live-within;
-              best-is =
-                  rw (next-more depth number branch)
-                  (best-passes received limit next (next + span (depth + 1)) best (omega arith) (all-dead stands dead) (w .best-is));
-              room = w .room;
-              costs-are = w .costs-are;
-            }
+            let child-far : limit < disagreements received (prefixBits (depth + 1) child) = omega (arith, e ∙ branch-distance) in
+            passing best live (w .live-is ∙ sym (rw stands at (live-pass received limit depth first child child-far))) (w .live-within)
+            (best-passes received limit next (next + span (depth + 1)) best (omega arith) (all-far stands child-far) (w .best-is))
           where
             -- No word with a prefix that isn't live is within the limit.
-            all-dead : child * span (depth + 1) ≡ next → limit < disagreements received (prefixBits (depth + 1) child)
+            all-far : child * span (depth + 1) ≡ next → limit < disagreements received (prefixBits (depth + 1) child)
                 → (word : ℕ) → next ≤ word → word < next + span (depth + 1) → limit < wordDisagreements received word
-            all-dead stands dead word from to =
+            all-far stands child-far word from to =
                 let rest : child * span (depth + 1) + (word - next) ≡ word = omega arith in
                 let begins : word / span (depth + 1) ≡ child = rw rest at (within-span (depth + 1) child (word - next) (omega arith)) in
                 rw (← word-at received word)
-                (words-dead received limit (depth + 1) child word 81 begins dead (omega (arith, w .depth-most)) (omega arith))
+                (words-not-live received limit (depth + 1) child word 81 begins child-far (omega (arith, w .depth-most)) (omega arith))
 
     -- ---- Back up
 

@@ -25,15 +25,18 @@ wrongSyncIn frame = countBelow 162 (λ place. not (synced place (getD frame plac
 
 -- "The answer holds the word, its disagreements, the live count, and the number of the 162 symbols whose sync bit (symbol modulo 2) is
 -- wrong."
-unfoldable pub nearestOf : List ℕ → ℕ → Nearest
-nearestOf frame limit =
-    let received = receivedBits frame in
+unfoldable pub answerWith : List ℕ → ℕ → ℕ → ℕ → Nearest
+answerWith frame limit word disagreements =
     record {
-      word = nearest received;
-      disagreements = fewest received;
-      live = liveCount received limit;
+      word = word;
+      disagreements = disagreements;
+      live = liveCount (receivedBits frame) limit;
       «sync_wrong» = wrongSyncIn frame;
     }
+
+-- "The word is the one with the fewest disagreements of all 2^50."
+unfoldable pub nearestOf : List ℕ → ℕ → Nearest
+nearestOf frame limit = answerWith frame limit (nearest (receivedBits frame)) (fewest (receivedBits frame))
 
 -- The one word with the fewest disagreements where these are at most the limit, or why there is none. If the fewest lie above the limit,
 -- 17 is given, shared or not.

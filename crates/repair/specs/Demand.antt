@@ -12,7 +12,7 @@ use Rattle.refusal.specs.Refusals.{refusal, wrongLength, symbolTooLarge, badBou
 use Rattle.frame.specs.Symbols.{frameOf, RightSymbols, dataAt, receivedBits}
 use Rattle.distance.specs.Prefixes.{wordDisagreements, liveCount}
 use Rattle.distance.specs.Nearest.{AtMostAll, OnlyNearest}
-use Rattle.repair.specs.Answer.{wrongSyncIn}
+use Rattle.repair.specs.Answer.{wrongSyncIn, answerWith}
 use Rattle.repair.specs.declared.Nearest.{Nearest}
 use Rattle.repair.specs.declared.Repaired.{Repaired}
 
@@ -90,13 +90,7 @@ flips word frame = countBelow 162 (λ place. not (eqb (dataAt frame place) (data
 
 -- The sent word, "with the number of flipped bits as its disagreements", and what else the answer holds.
 unfoldable pub givenBack : ℕ → List ℕ → ℕ → Nearest
-givenBack word frame limit =
-    record {
-      word = word;
-      disagreements = flips word frame;
-      live = liveCount (receivedBits frame) limit;
-      «sync_wrong» = wrongSyncIn frame;
-    }
+givenBack word frame limit = answerWith frame limit word (flips word frame)
 
 -- "Whichever 50-bit word was sent, whichever of its frame's 162 data bits were flipped, two at most, and whatever became of the sync
 -- bits, limit 2 with a budget of 16,000 gives that word back, with the number of flipped bits as its disagreements."

@@ -9,6 +9,7 @@ use Rattle.refusal.specs.Refusals.{refusal, overBudget, noneWithinLimit, shared
 use Rattle.distance.specs.Prefixes.{wordDisagreements, liveCount}
 use Rattle.repair.specs.declared.best.Best.{Best}
 use Rattle.repair.specs.declared.search.Found.{Found}
+use Rattle.repair.specs.declared.Nearest.{Nearest}
 use Rattle.repair.specs.declared.Repaired.{Repaired}
 
 -- ---- The nearest word so far
@@ -48,10 +49,14 @@ pub record SearchFound (received : List ℕ) (limit budget : ℕ) (found : Found
   pub best-of-all : found .live ≤ budget → BestBelow received limit (2 ^ 50) (found .best)
 
 -- The answer that it gives, with the number of wrong sync bits.
+unfoldable pub nearestIn : Found → ℕ → Nearest
+nearestIn found wrong =
+    record { word = found .best .word; disagreements = found .best .fewest; live = found .live; «sync_wrong» = wrong }
+
 unfoldable pub answerOf : Found → ℕ → ℕ → ℕ → Repaired
 answerOf found wrong limit budget =
     let best = found .best in
     cond (ltb budget (found .live)) (Repaired.Refused (refusal overBudget 0))
     (cond (ltb limit (best .fewest)) (Repaired.Refused (refusal noneWithinLimit 0))
     (cond (leb (best .next) (best .fewest)) (Repaired.Refused (refusal sharedFewest 0))
-    (Repaired.Word (record { word = best .word; disagreements = best .fewest; live = found .live; «sync_wrong» = wrong }))))
+    (Repaired.Word (nearestIn found wrong))))

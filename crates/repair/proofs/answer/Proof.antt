@@ -2,6 +2,7 @@
 -- Assumes nothing.
 use native.Mathlib.Omega.{arith}
 use mathlib.Core.Path.{sym}
+use Rattle.repair.specs.Search.{nearestIn}
 use Rattle.repair.proofs.FoundLaws.{answer-over, answer-none, answer-shared, answer-word}
 use Rattle.repair.proofs.answer.Statement.{statement}
 use Rattle.repair.proofs.answer.Tie as tie
@@ -22,6 +23,7 @@ returns-3 c =
     sym (answer-shared (a .found) (a .sync-wrong) (a .limit) (a .budget) (omega arith) (omega arith) (omega arith))
 
 returns-4 : tie.Need-returns-4
+unfolding nearestIn
 returns-4 c =
     let a = c .before .before .before .before .before .before .before .args in
     sym (answer-word (a .found) (a .sync-wrong) (a .limit) (a .budget) (omega arith) (omega arith) (omega arith))
