@@ -31,7 +31,7 @@ pub record Walking (received : List ℕ) (limit budget : ℕ) (costs : List ℕ)
   pub live-is : live ≡ passedLive received limit depth (number * span depth) (nextWord depth number branch)
   pub live-within : live ≤ budget
   pub best-is : BestBelow received limit (nextWord depth number branch) best
-  -- For each prefix on the way, what a 0 after it costs.
+  -- For each prefix on the path from the root, what a 0 after it costs.
   pub room : length costs ≡ 81
   pub costs-are : (j : ℕ) → j ≤ depth → getD costs j 0 ≡ zeroCost received j (number * span depth / span j)
 

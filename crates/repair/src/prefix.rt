@@ -1,5 +1,5 @@
-// Prefixes by their numbers, as the search goes from one to the next: longer by a branch, and back. Only
-// the bits of the word branch; the bits of the tail are zeros.
+// Prefixes by their numbers, as the search goes from one to the next: longer by a branch, and back.
+// Only the bits of the word branch; the bits of the tail are zeros.
 ghost use mathlib.Core.Path.{_≡_};
 ghost use Prim.Native.Nat.{_^_, _≤_, _<_};
 ghost use Rattle.distance.specs.Steps.{branchesOf, childOf, parentOf, lastBranch, registerOf};
