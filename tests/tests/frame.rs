@@ -832,7 +832,7 @@ fn refusals_come_in_their_order_in_writing_messages() {
 }
 
 #[test]
-fn frames_of_every_wrong_length_are_refused_in_writing_messages() {
+fn frames_of_other_lengths_are_refused_in_writing_messages() {
     let mut check = Check::new(30);
     for len in wrong_lengths() {
         for _ in 0..4 {

@@ -404,7 +404,7 @@ fn limits_and_budgets_out_of_range_are_refused() {
 }
 
 #[test]
-fn frames_of_every_wrong_length_are_refused() {
+fn frames_of_other_lengths_are_refused() {
     let mut check = Check::new(17);
     for len in wrong_lengths() {
         let frame = random_frame(&mut check.rng);
