@@ -1,22 +1,22 @@
-# What is made goes to target/ (rt), build/ (gcc) and tests/target/ (cargo).
+# What is made goes to target/ (rt), build/ (gcc, clang) and tests/target/ (cargo).
 CC = gcc
 CFLAGS = -O2
 COMPILE = $(CC) -std=c11 -Wall -Wextra $(CFLAGS) -Iinclude
+CARD = target/staticlib/libwsprcard.a
 
-# The programs of host/. What each is to print stands beside it, in host/NAME.stdout.
-HOST = messages frames repair telemetry
+# The C programs of tests/c. What each is to print stands beside it, in tests/c/NAME.stdout.
+INTERFACE = messages frames repair telemetry
 
-.PHONY: run test bench library program clean
+.PHONY: all run test bench library program clean
 
-# The product at work: a few messages, frames, repairs and telemetry reports through the C interface.
-run: $(HOST:%=build/%)
-	for name in $(HOST); do ./build/$$name || exit 1; done
+# The host program, build/wsprcard, over the library.
+all: build/wsprcard
 
 # The outside tests, then the gate, whose last line is 'N passed, 0 failed'. The benchmark is built, so that it keeps up
 # with the header, and not run.
-test: $(HOST:%=build/%) build/bench_repair program
-	for name in $(HOST); do \
-	    ./build/$$name > build/$$name.stdout && diff host/$$name.stdout build/$$name.stdout || exit 1; \
+test: build/wsprcard $(INTERFACE:%=build/%) build/bench_repair program
+	for name in $(INTERFACE); do \
+	    ./build/$$name > build/$$name.stdout && diff tests/c/$$name.stdout build/$$name.stdout || exit 1; \
 	done
 	cd tests && cargo test --release --offline
 	rt ci
@@ -33,15 +33,19 @@ library:
 program: library
 	rt check telemetry_lines
 
-target/staticlib/libwsprcard.a: library
+$(CARD): library
 
-build/%: host/%.c include/wsprcard.h target/staticlib/libwsprcard.a
+build/wsprcard: host/wsprcard.c include/wsprcard.h $(CARD)
 	mkdir -p build
-	$(COMPILE) -o $@ $< target/staticlib/libwsprcard.a
+	$(COMPILE) -o $@ host/wsprcard.c $(CARD)
 
-build/bench_repair: bench/repair.c bench/search.c bench/search.h include/wsprcard.h target/staticlib/libwsprcard.a
+build/%: tests/c/%.c include/wsprcard.h $(CARD)
 	mkdir -p build
-	$(COMPILE) -o $@ bench/repair.c bench/search.c target/staticlib/libwsprcard.a
+	$(COMPILE) -o $@ $< $(CARD)
+
+build/bench_repair: bench/repair.c bench/search.c bench/search.h include/wsprcard.h $(CARD)
+	mkdir -p build
+	$(COMPILE) -o $@ bench/repair.c bench/search.c $(CARD)
 
 clean:
 	rm -rf target build tests/target
