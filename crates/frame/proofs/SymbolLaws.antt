@@ -1,12 +1,17 @@
 -- Laws of symbols: a frame's sync and data bits, and its coded bits back again.
 use mathlib.Core.Path.{_≡_, refl, sym, ap, _∙_}
+use mathlib.Core.Logic.{_↔_}
 use Prim.Native.Nat.{ℕ, _+_, _*_, _/_, _%_, _^_, _≤_, _<_}
 use native.Mathlib.Omega.{arith}
+use mathlib.Core.Bool.{Bool, not}
 use mathlib.Core.List.{List}
-use lib.Dec.{ltb}
+use lib.Dec.{ltb, eqb}
 use lib.ListN.{length, getD}
 use lib.Seq.{ext-getD}
 use borrow.Author.Tests.{ltb-true, leb-true, eqb-true, le-leb, eq-eqb}
+use Rattle.basics.specs.Below.{countBelow}
+use Rattle.basics.proofs.BelowLaws.{count-none, count-one}
+use Rattle.basics.proofs.Choice.{by-test}
 use Rattle.basics.proofs.Tables.{every-at}
 use Rattle.basics.proofs.ListLaws.{length-tabulate, getD-tabulate, by-rule, passes-at, passes-each}
 use Rattle.convolution.specs.Code.{codedBits}
@@ -15,15 +20,16 @@ use Rattle.convolution.proofs.CodeLaws.{length-codedBits, codedBits-below}
 use Rattle.convolution.proofs.DecodingLaws.{decode-encode}
 use Rattle.interleaver.specs.Places.{placeOf, orderOf}
 use Rattle.interleaver.proofs.PlaceLaws.{placeOf-below, orderOf-below, orderOf-placeOf, placeOf-orderOf}
-use Rattle.frame.specs.Symbols.{syncVector, syncAt, symbolAt, frameOf, RightSymbols, receivedBits}
-use Rattle.frame.specs.Answer.{small, firstLarge, synced, firstWrongSync}
+use Rattle.frame.specs.Symbols.{syncVector, syncAt, symbolAt, frameOf, RightSymbols, receivedBits, synced, wrongSyncIn}
+use Rattle.frame.specs.Answer.{small, firstLarge, firstWrongSync}
 use Rattle.frame.specs.RoundTrip.{RightForm}
 
 -- ---- Symbols
 
-pub getD-sync : (place : ℕ) → getD syncVector place 0 ≡ syncAt place
+-- What is read of a copy of the synchronization vector is the place's sync bit.
+pub sync-read : {table : List ℕ} (place : ℕ) → table ≡ syncVector → getD table place 0 ≡ syncAt place
 unfolding syncAt
-getD-sync place = refl
+sync-read place same = ap (λ (t : List ℕ). getD t place 0) same
 
 pub sync-below : (place : ℕ) → syncAt place < 2
 unfolding syncAt syncVector
@@ -136,3 +142,19 @@ module _ (frame : List ℕ) where
   none-wrong form =
       let long = form .right-symbols .right-length in
       passes-each synced 0 frame (λ place h. eq-eqb _ _ (form .right-sync place (omega arith))) ∙ long
+
+-- ---- Wrong sync bits
+
+-- None is counted exactly where every sync bit is right.
+pub no-wrong-sync : (frame : List ℕ) → (wrongSyncIn frame ≡ 0) ↔ ((place : ℕ) → place < 162 → getD frame place 0 % 2 ≡ syncAt place)
+unfolding wrongSyncIn
+no-wrong-sync frame = (right, λ all. count-none 162 wrong (λ place h. rw (eq-eqb _ _ (all place h))))
+  where
+    wrong : ℕ → Bool
+    wrong place = not (synced place (getD frame place 0))
+
+    right : countBelow 162 wrong ≡ 0 → (place : ℕ) → place < 162 → getD frame place 0 % 2 ≡ syncAt place
+    right none place h =
+        by-test (eqb (getD frame place 0 % 2) (syncAt place))
+        (λ same. eqb-true _ _ same)
+        (λ other. absurd (omega (arith, count-one 162 wrong place h (rw other))))

@@ -1,5 +1,5 @@
 -- What writing and strictly reading a frame answer, for every input, and what the lent buffers then hold.
-use Prim.Native.Nat.{ℕ, _%_, _^_}
+use Prim.Native.Nat.{ℕ, _^_}
 use mathlib.Core.Bool.{Bool, cond, not}
 use mathlib.Core.List.{List}
 use lib.Dec.{eqb, leb, ltb}
@@ -12,7 +12,7 @@ use Rattle.message.specs.Word.{wordOf}
 use Rattle.message.specs.declared.Packed.{Packed}
 use Rattle.message.specs.declared.Given.{Given}
 use Rattle.convolution.specs.Decoding.{decodedWord}
-use Rattle.frame.specs.Symbols.{syncAt, frameOf, receivedBits}
+use Rattle.frame.specs.Symbols.{synced, frameOf, receivedBits}
 use Rattle.frame.specs.declared.Written.{Written}
 use Rattle.frame.specs.declared.Read.{Read}
 
@@ -56,10 +56,7 @@ small place symbol = leb symbol 3
 unfoldable pub firstLarge : List ℕ → ℕ
 firstLarge frame = firstFailing small 0 frame
 
--- "a sync bit is wrong": the first such. The sync bit is the symbol modulo 2.
-abbrev pub synced : ℕ → ℕ → Bool
-synced place symbol = eqb (symbol % 2) (syncAt place)
-
+-- "a sync bit is wrong": the first such.
 unfoldable pub firstWrongSync : List ℕ → ℕ
 firstWrongSync frame = firstFailing synced 0 frame
 

@@ -1,8 +1,11 @@
 -- The symbols of a frame (01, 'Frame'): sync bits, data bits, and the frame of a word.
 use mathlib.Core.Path.{_≡_}
-use Prim.Native.Nat.{ℕ, _+_, _*_, _/_, _≤_, _<_}
+use Prim.Native.Nat.{ℕ, _+_, _*_, _/_, _%_, _≤_, _<_}
+use mathlib.Core.Bool.{Bool, not}
 use mathlib.Core.List.{List, [], _∷_}
+use lib.Dec.{eqb}
 use lib.ListN.{length, getD}
+use Rattle.basics.specs.Below.{countBelow}
 use Rattle.basics.specs.Lists.{tabulate}
 use Rattle.convolution.specs.Code.{codedBits}
 use Rattle.interleaver.specs.Places.{placeOf, orderOf}
@@ -40,3 +43,11 @@ dataAt frame place = getD frame place 0 / 2
 -- Back from a frame: the data bits, "put back in S order".
 unfoldable pub receivedBits : List ℕ → List ℕ
 receivedBits frame = tabulate 162 (λ index. dataAt frame (placeOf index))
+
+-- A symbol's sync bit, "symbol modulo 2", is that of its place.
+abbrev pub synced : ℕ → ℕ → Bool
+synced place symbol = eqb (symbol % 2) (syncAt place)
+
+-- "the number of the 162 symbols whose sync bit (symbol modulo 2) is wrong"
+unfoldable pub wrongSyncIn : List ℕ → ℕ
+wrongSyncIn frame = countBelow 162 (λ place. not (synced place (getD frame place 0)))

@@ -1,6 +1,6 @@
 // A frame of 162 symbols: written from a word or a message, and strictly read to either.
 pub mod symbols;
-pub mod sync;
+mod sync;
 
 ghost use mathlib.Core.Path.{_≡_};
 ghost use Rattle.frame.specs.Answer.{wordWritten, messageWritten, frameAfterWord, frameAfterMessage, wordRead, refusalOf, messageRead, callsignRead, locatorRead};

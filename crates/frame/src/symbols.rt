@@ -2,7 +2,7 @@
 ghost use mathlib.Core.Path.{_≡_};
 ghost use Prim.Native.Nat.{_≤_};
 ghost use lib.ListN.{length};
-ghost use Rattle.frame.specs.Symbols.{frameOf, receivedBits};
+ghost use Rattle.frame.specs.Symbols.{frameOf, receivedBits, wrongSyncIn};
 ghost use Rattle.frame.specs.Answer.{firstLarge, firstWrongSync, wordOfData};
 use super::Read;
 use super::sync::sync_vector;
@@ -52,6 +52,24 @@ pub(crate) fn first_wrong_sync(frame: &[u8]) -> usize
         place += 1;
     }
     place
+}
+
+// How many symbols have a wrong sync bit.
+pub fn wrong_sync(frame: &[u8]) -> u32
+    requires { ⌜ length (now frame) ≡ 162 ⌝ }
+    ensures { λ r. ⌜ r ≡ wrongSyncIn (now (frame .entry)) ⌝ }
+{
+    let sync = sync_vector();
+    let mut wrong: u32 = 0;
+    let mut place = 0;
+    while place < 162 {
+        let sync_bit = frame[place] % 2;
+        if sync_bit != sync[place] {
+            wrong += 1;
+        }
+        place += 1;
+    }
+    wrong
 }
 
 // The data bits of a frame in coded order.

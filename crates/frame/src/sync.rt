@@ -168,7 +168,7 @@ const SYNC: [u8; 162] = [
 ];
 
 // The synchronization vector whole: it is copied once a frame, not once a symbol.
-pub fn sync_vector() -> [u8; 162]
+pub(crate) fn sync_vector() -> [u8; 162]
     ensures { λ r. ⌜ r ≡ syncVector ⌝ }
 {
     SYNC

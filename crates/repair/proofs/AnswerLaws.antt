@@ -1,25 +1,19 @@
--- Repair's answer is what demand 3 asks for; and what its count of wrong sync bits means.
+-- Repair's answer is what demand 3 asks for.
 use mathlib.Core.Path.{_≡_, refl, sym, ap, _∙_}
-use mathlib.Core.Logic.{_↔_}
-use Prim.Native.Nat.{ℕ, _%_, _≤_, _<_}
+use Prim.Native.Nat.{ℕ, _≤_, _<_}
 use native.Mathlib.Omega.{arith}
-use mathlib.Core.Bool.{Bool, not}
 use mathlib.Core.List.{List}
-use lib.Dec.{eqb}
-use lib.ListN.{length, getD}
-use borrow.Author.Tests.{eq-eqb, eqb-true, lt-ltb, le-ltb}
-use Rattle.basics.specs.Below.{countBelow}
-use Rattle.basics.proofs.BelowLaws.{count-none, count-one}
-use Rattle.basics.proofs.Choice.{by-test, below-or-not}
+use lib.ListN.{length}
+use borrow.Author.Tests.{eq-eqb, lt-ltb, le-ltb}
+use Rattle.basics.proofs.Choice.{below-or-not}
 use Rattle.refusal.specs.declared.Refusal.{Refusal}
 use Rattle.refusal.specs.Refusals.{refusal, overBudget, noneWithinLimit, sharedFewest}
-use Rattle.frame.specs.Symbols.{syncAt, RightSymbols, receivedBits}
-use Rattle.frame.specs.Answer.{synced}
+use Rattle.frame.specs.Symbols.{RightSymbols, receivedBits}
 use Rattle.frame.proofs.SymbolLaws.{none-large}
 use Rattle.distance.specs.Prefixes.{liveCount}
 use Rattle.distance.specs.Nearest.{fewest, sharing, nearest}
 use Rattle.distance.proofs.NearestLaws.{fewest-below, fewest-reached, fewest-is, fewest-only, sharing-only, nearest-only, only-nearest, sharing-two, two-sharing}
-use Rattle.repair.specs.Answer.{wrongSyncIn, answerWith, nearestOf, nearestWithin, searched, repaired, repairNumbers}
+use Rattle.repair.specs.Answer.{answerWith, nearestOf, nearestWithin, searched, repaired, repairNumbers}
 use Rattle.repair.specs.Demand.{Bounds, IsNearest, NoneWithin, Shared, AsDemanded}
 use Rattle.repair.specs.declared.Nearest.{Nearest}
 use Rattle.repair.specs.declared.Repaired.{Repaired}
@@ -49,22 +43,6 @@ module _ (frame : List ℕ) (limit budget : ℕ) where
   pub repaired-searched : RightSymbols frame → Bounds limit budget → repaired frame limit budget ≡ searched frame limit budget
   unfolding repaired
   repaired-searched right bounds = rw (eq-eqb (length frame) 162 (right .right-length), no-bad-bound limit budget bounds, none-large frame right)
-
-  -- ---- Wrong sync bits
-
-  -- None is counted exactly where every sync bit is right.
-  pub no-wrong-sync : (wrongSyncIn frame ≡ 0) ↔ ((place : ℕ) → place < 162 → getD frame place 0 % 2 ≡ syncAt place)
-  unfolding wrongSyncIn
-  no-wrong-sync = (right, λ all. count-none 162 wrong (λ place h. rw (eq-eqb _ _ (all place h))))
-    where
-      wrong : ℕ → Bool
-      wrong place = not (synced place (getD frame place 0))
-
-      right : countBelow 162 wrong ≡ 0 → (place : ℕ) → place < 162 → getD frame place 0 % 2 ≡ syncAt place
-      right none place h =
-          by-test (eqb (getD frame place 0 % 2) (syncAt place))
-          (λ same. eqb-true _ _ same)
-          (λ other. absurd (omega (arith, count-one 162 wrong place h (rw other))))
 
   -- ---- One law for each case
 

@@ -8,16 +8,15 @@ use Rattle.basics.proofs.Choice.{below-or-not}
 use Rattle.refusal.specs.Refusals.{refusal, overBudget, noneWithinLimit, sharedFewest}
 use Rattle.interleaver.specs.Places.{placeOf}
 use Rattle.interleaver.proofs.PlaceLaws.{placeOf-below}
-use Rattle.frame.specs.Symbols.{RightSymbols, receivedBits}
+use Rattle.frame.specs.Symbols.{RightSymbols, receivedBits, wrongSyncIn}
 use Rattle.frame.proofs.SymbolLaws.{length-receivedBits, getD-receivedBits}
 use Rattle.distance.specs.Prefixes.{wordDisagreements, liveCount}
 use Rattle.distance.specs.Nearest.{AtMostAll, OnlyNearest}
-use Rattle.repair.specs.Answer.{wrongSyncIn, searched}
+use Rattle.repair.specs.Answer.{searched}
 use Rattle.repair.specs.Demand.{IsNearest, Shared}
 use Rattle.repair.specs.Search.{BestBelow, Received, SearchFound, nearestIn, answerOf}
 use Rattle.repair.specs.declared.best.Best.{Best}
 use Rattle.repair.specs.declared.search.Found.{Found}
-use Rattle.repair.specs.declared.Nearest.{Nearest}
 use Rattle.repair.specs.declared.Repaired.{Repaired}
 use Rattle.repair.proofs.AnswerLaws.{searched-over, of-word, of-none, of-shared}
 

@@ -3,13 +3,12 @@ use Prim.Native.Nat.{ℕ}
 use mathlib.Core.Bool.{cond, not}
 use mathlib.Core.List.{List, [], _∷_}
 use lib.Dec.{eqb, leb, ltb}
-use lib.ListN.{length, getD}
-use Rattle.basics.specs.Below.{countBelow}
+use lib.ListN.{length}
 use Rattle.basics.specs.Lists.{firstFalse}
 use Rattle.basics.specs.Test.{between}
 use Rattle.refusal.specs.Refusals.{refusal, wrongLength, symbolTooLarge, badBound, overBudget, noneWithinLimit, sharedFewest}
-use Rattle.frame.specs.Symbols.{receivedBits}
-use Rattle.frame.specs.Answer.{firstLarge, synced}
+use Rattle.frame.specs.Symbols.{receivedBits, wrongSyncIn}
+use Rattle.frame.specs.Answer.{firstLarge}
 use Rattle.distance.specs.Prefixes.{liveCount}
 use Rattle.distance.specs.Nearest.{fewest, sharing, nearest}
 use Rattle.repair.specs.declared.Nearest.{Nearest}
@@ -18,10 +17,6 @@ use Rattle.repair.specs.declared.Repaired.{Repaired}
 -- "limit above 12, or budget 0 or above 65,536": place 0 or 1, and 2 where neither is so.
 unfoldable pub firstBadBound : ℕ → ℕ → ℕ
 firstBadBound limit budget = firstFalse 0 (leb limit 12 ∷ between 1 65_536 budget ∷ [])
-
--- How many of the 162 symbols have a wrong sync bit.
-unfoldable pub wrongSyncIn : List ℕ → ℕ
-wrongSyncIn frame = countBelow 162 (λ place. not (synced place (getD frame place 0)))
 
 -- "The answer holds the word, its disagreements, the live count, and the number of the 162 symbols whose sync bit (symbol modulo 2) is
 -- wrong."

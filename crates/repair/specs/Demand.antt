@@ -9,10 +9,10 @@ use lib.Dec.{eqb}
 use lib.ListN.{length, getD}
 use Rattle.basics.specs.Below.{countBelow}
 use Rattle.refusal.specs.Refusals.{refusal, wrongLength, symbolTooLarge, badBound, overBudget, noneWithinLimit, sharedFewest}
-use Rattle.frame.specs.Symbols.{frameOf, RightSymbols, dataAt, receivedBits}
+use Rattle.frame.specs.Symbols.{frameOf, RightSymbols, dataAt, receivedBits, wrongSyncIn}
 use Rattle.distance.specs.Prefixes.{wordDisagreements, liveCount}
 use Rattle.distance.specs.Nearest.{AtMostAll, OnlyNearest}
-use Rattle.repair.specs.Answer.{wrongSyncIn, answerWith}
+use Rattle.repair.specs.Answer.{answerWith}
 use Rattle.repair.specs.declared.Nearest.{Nearest}
 use Rattle.repair.specs.declared.Repaired.{Repaired}
 

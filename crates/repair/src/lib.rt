@@ -4,7 +4,6 @@ mod best;
 mod cost;
 mod prefix;
 mod search;
-mod sync;
 
 ghost use mathlib.Core.Path.{_≡_};
 ghost use Rattle.repair.specs.Answer.{firstBadBound, repaired};
@@ -107,5 +106,5 @@ pub fn repair(frame: &[u8], limit: u32, budget: u32) -> Repaired
     }
     let received = frame::symbols::received_bits(frame);
     let found = search::search(&received, limit, budget);
-    answer(found, sync::wrong_sync(frame), limit, budget)
+    answer(found, frame::symbols::wrong_sync(frame), limit, budget)
 }

@@ -1,17 +1,16 @@
 -- `frame::symbols::first_wrong_sync` meets its contract: it looks for the first place whose sync bit is wrong.
 -- The measure is what is left of the frame.
 -- Assumes nothing.
-use mathlib.Core.Path.{_≡_, refl, sym, ap, _∙_}
-use Prim.Native.Nat.{ℕ, _-_}
+use mathlib.Core.Path.{refl, sym, _∙_}
+use Prim.Native.Nat.{_-_}
 use native.Mathlib.Omega.{arith}
-use mathlib.Core.List.{List}
-use lib.ListN.{length, getD}
+use lib.ListN.{length}
 use borrow.Author.Needs.{needs}
 use borrow.Author.Tests.{eq-eqb, ne-eqb}
 use Rattle.basics.proofs.ListLaws.{Searching, search-failed, search-passed, search-over}
-use Rattle.frame.specs.Symbols.{syncAt}
-use Rattle.frame.specs.Answer.{synced, firstWrongSync}
-use Rattle.frame.proofs.SymbolLaws.{getD-sync}
+use Rattle.frame.specs.Symbols.{synced}
+use Rattle.frame.specs.Answer.{firstWrongSync}
+use Rattle.frame.proofs.SymbolLaws.{sync-read}
 use Rattle.frame.proofs.symbols.first_wrong_sync.Statement.{statement}
 use Rattle.frame.proofs.symbols.first_wrong_sync.Tie as tie
 
@@ -20,10 +19,6 @@ Inv-loop frame sync place₀ place = Searching synced frame place
 
 abbrev μ-loop : tie.MeasureT-loop
 μ-loop frame sync place₀ place = length frame - place
-
--- What is read of the table is the place's sync bit.
-sync-read : (l : tie.At-loop Inv-loop μ-loop) → getD (l .before .sync-vector .result) (l .loop .place) 0 ≡ syncAt (l .loop .place)
-sync-read l = ap (λ (table : List ℕ). getD table (l .loop .place) 0) (l .before .sync-vector .ensures) ∙ getD-sync (l .loop .place)
 
 sync-vector-requires : tie.Need-sync-vector-requires Inv-loop μ-loop
 sync-vector-requires c κs = search needs
@@ -42,7 +37,7 @@ unfolding firstWrongSync
 returns c =
     let l = c .before .before .before in
     let frame = l .before .before .before .args .frame .now in
-    let wrong = ne-eqb _ _ (λ e. c .if1 .taken (e ∙ sym (sync-read l))) in
+    let wrong = ne-eqb _ _ (λ e. c .if1 .taken (e ∙ sym (sync-read (l .loop .place) (l .before .sync-vector .ensures)))) in
     sym (search-failed synced frame (l .loop .place) (l .loop .place) 0 (omega arith) wrong) ∙ l .loop .inv .1
 
 add-place : tie.Need-add-place Inv-loop μ-loop
@@ -55,7 +50,7 @@ loop-again : tie.Need-loop-again Inv-loop μ-loop
 loop-again c =
     let l = c .before .before .before in
     let frame = l .before .before .before .args .frame .now in
-    let right = eq-eqb _ _ (c .if1 .left ∙ sync-read l) in
+    let right = eq-eqb _ _ (c .if1 .left ∙ sync-read (l .loop .place) (l .before .sync-vector .ensures)) in
     (omega arith, search-passed synced frame (l .loop .place) (l .loop .place) 0 (omega arith) right ∙ l .loop .inv .1)
 
 returns-2 : tie.Need-returns-2 Inv-loop μ-loop

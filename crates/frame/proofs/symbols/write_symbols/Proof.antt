@@ -12,8 +12,8 @@ use Rattle.convolution.specs.Code.{codedBits}
 use Rattle.convolution.proofs.CodeLaws.{codedBits-below}
 use Rattle.interleaver.specs.Places.{orderOf}
 use Rattle.interleaver.proofs.PlaceLaws.{orderOf-below, getD-order}
-use Rattle.frame.specs.Symbols.{syncAt, symbolAt, frameOf}
-use Rattle.frame.proofs.SymbolLaws.{getD-sync, sync-below, length-frameOf, getD-frameOf}
+use Rattle.frame.specs.Symbols.{symbolAt, frameOf}
+use Rattle.frame.proofs.SymbolLaws.{sync-read, sync-below, length-frameOf, getD-frameOf}
 use Rattle.frame.proofs.symbols.write_symbols.Statement.{statement}
 use Rattle.frame.proofs.symbols.write_symbols.Tie as tie
 
@@ -23,10 +23,7 @@ Inv-loop word frame₀ coded order sync place₀ frame place = Filling (frameOf 
 abbrev μ-loop : tie.MeasureT-loop
 μ-loop word frame₀ coded order sync place₀ frame place = 162 - place
 
--- What is read of the tables is the place's sync bit and the index of its coded bit; what is read there is the bit; the sum is the symbol.
-sync-read : (c : tie.In-loop Inv-loop μ-loop) → getD (c .before .before .sync-vector .result) (c .before .loop .place) 0 ≡ syncAt (c .before .loop .place)
-sync-read c = ap (λ (table : List ℕ). getD table (c .before .loop .place) 0) (c .before .before .sync-vector .ensures) ∙ getD-sync (c .before .loop .place)
-
+-- What is read of the order is the index of the place's coded bit; what is read there is the bit; the sum with the sync bit is the symbol.
 index : (c : tie.In-loop Inv-loop μ-loop) → getD (c .before .before .before .order .result) (c .before .loop .place) 0 ≡ orderOf (c .before .loop .place)
 index c =
     let place = c .before .loop .place in
@@ -44,7 +41,7 @@ written : (c : tie.In-loop Inv-loop μ-loop)
 unfolding symbolAt
 written c =
     let l = c .before in
-    rw (bit c, sync-read c) (sym (getD-frameOf (l .before .before .before .before .before .args .word) (l .loop .place) (omega arith)))
+    rw (bit c, sync-read (l .loop .place) (l .before .sync-vector .ensures)) (sym (getD-frameOf (l .before .before .before .before .before .args .word) (l .loop .place) (omega arith)))
 
 encode-requires : tie.Need-encode-requires Inv-loop μ-loop
 encode-requires c κs = search needs
@@ -80,7 +77,7 @@ add-frame : tie.Need-add-frame Inv-loop μ-loop
 add-frame c =
     let l = c .before in
     let word = l .before .before .before .before .before .args .word in
-    omega (arith, bit c, codedBits-below word (orderOf (l .loop .place)), sync-read c, sync-below (l .loop .place))
+    omega (arith, bit c, codedBits-below word (orderOf (l .loop .place)), sync-read (c .before .loop .place) (c .before .before .sync-vector .ensures), sync-below (l .loop .place))
 
 slice-write-frame : tie.Need-slice-write-frame Inv-loop μ-loop
 slice-write-frame c =

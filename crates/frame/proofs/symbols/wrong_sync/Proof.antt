@@ -1,4 +1,4 @@
--- `repair::sync::wrong_sync` meets its contract: each turn counts a place. The measure is the number of places left.
+-- `frame::symbols::wrong_sync` meets its contract: each turn counts a place. The measure is the number of places left.
 -- Assumes nothing.
 use mathlib.Core.Path.{_≡_, sym, ap, _∙_}
 use mathlib.Core.Logic.{⊎-elim}
@@ -11,12 +11,10 @@ use borrow.Author.Needs.{needs}
 use borrow.Author.Tests.{eq-eqb, ne-eqb}
 use Rattle.basics.specs.Below.{countBelow}
 use Rattle.basics.proofs.BelowLaws.{count-none, count-raised, count-kept}
-use Rattle.frame.specs.Symbols.{syncAt}
-use Rattle.frame.specs.Answer.{synced}
-use Rattle.frame.proofs.SymbolLaws.{getD-sync}
-use Rattle.repair.specs.Answer.{wrongSyncIn}
-use Rattle.repair.proofs.sync.wrong_sync.Statement.{statement}
-use Rattle.repair.proofs.sync.wrong_sync.Tie as tie
+use Rattle.frame.specs.Symbols.{synced, wrongSyncIn}
+use Rattle.frame.proofs.SymbolLaws.{sync-read}
+use Rattle.frame.proofs.symbols.wrong_sync.Statement.{statement}
+use Rattle.frame.proofs.symbols.wrong_sync.Tie as tie
 
 abbrev unsynced : List ℕ → ℕ → Bool
 unsynced frame place = not (synced place (getD frame place 0))
@@ -27,18 +25,14 @@ Inv-loop frame sync wrong₀ place₀ wrong place = (place ≤ 162) × ((wrong �
 abbrev μ-loop : tie.MeasureT-loop
 μ-loop frame sync wrong₀ place₀ wrong place = 162 - place
 
--- What is read of the table is the place's sync bit.
-sync-read : (l : tie.At-loop Inv-loop μ-loop) → getD (l .before .sync-vector .result) (l .loop .place) 0 ≡ syncAt (l .loop .place)
-sync-read l = ap (λ (table : List ℕ). getD table (l .loop .place) 0) (l .before .sync-vector .ensures) ∙ getD-sync (l .loop .place)
-
 sync-vector-requires : tie.Need-sync-vector-requires Inv-loop μ-loop
 sync-vector-requires c κs = search needs
 
 loop-holds : tie.Need-loop-holds Inv-loop μ-loop
 loop-holds c = (omega arith, (omega arith, sym (count-none 0 (unsynced (c .before .before .args .frame .now)) (λ i h. absurd (omega arith)))))
 
-shared-slice-read-if1 : tie.Need-shared-slice-read-if1 Inv-loop μ-loop
-shared-slice-read-if1 c = search needs
+shared-slice-read-sync-bit : tie.Need-shared-slice-read-sync-bit Inv-loop μ-loop
+shared-slice-read-sync-bit c = search needs
 
 array-read-if1 : tie.Need-array-read-if1 Inv-loop μ-loop
 array-read-if1 c = search needs
@@ -59,10 +53,10 @@ loop-again c =
     let counted = l .loop .inv .1 .1 in
     ⊎-elim
     (λ v.
-    let wrong = ne-eqb _ _ (λ e. v .0 .taken (e ∙ sym (sync-read l))) in
+    let wrong = ne-eqb _ _ (λ e. v .0 .taken (e ∙ sym (sync-read (l .loop .place) (l .before .sync-vector .ensures)))) in
     (omega arith, (omega (arith, v .1), v .1 ∙ ap (λ (n : ℕ). n + 1) counted ∙ sym (count-raised (l .loop .place) (unsynced frame) (ap not wrong)))))
     (λ v.
-    let right = eq-eqb _ _ (v .0 .left ∙ sync-read l) in
+    let right = eq-eqb _ _ (v .0 .left ∙ sync-read (l .loop .place) (l .before .sync-vector .ensures)) in
     (omega arith, (omega (arith, v .1), v .1 ∙ counted ∙ sym (count-kept (l .loop .place) (unsynced frame) (ap not right)))))
     (c .if1 .came)
 
@@ -81,7 +75,7 @@ wrong-sync-spec =
     μ-loop
     sync-vector-requires
     loop-holds
-    shared-slice-read-if1
+    shared-slice-read-sync-bit
     array-read-if1
     add-wrong
     add-place
