@@ -1,4 +1,4 @@
--- Laws of sums, counts and least values over the numbers below n.
+-- Laws of sums, counts, the last that passes and least values over the numbers below n.
 use mathlib.Core.Path.{_≡_, refl, sym, ap, _∙_}
 use Prim.Native.Nat.{ℕ, zero, suc, _+_, _-_, _≤_, _<_}
 use native.Mathlib.Nat.{add-suc, add-zero, zero-add}
@@ -33,7 +33,7 @@ sum-plus zero f g = refl
 sum-plus (suc n) f g = omega (arith, sum-plus n f g)
 
 -- The numbers below m, and the n after them.
-pub sum-append : (m n : ℕ) (f : ℕ → ℕ) → sumBelow (m + n) f ≡ sumBelow m f + sumBelow n (λ i. f (m + i))
+sum-append : (m n : ℕ) (f : ℕ → ℕ) → sumBelow (m + n) f ≡ sumBelow m f + sumBelow n (λ i. f (m + i))
 unfolding sumBelow
 sum-append m zero f = rw (add-zero m, add-zero (sumBelow m f))
 sum-append m (suc n) f = rw (add-suc m n) (omega (arith, sum-append m n f))
@@ -45,22 +45,23 @@ sum-first zero f = omega arith
 sum-first (suc n) f = omega (arith, sum-first n f)
 
 -- A sum of sums, in either order.
-pub sum-swap : (m n : ℕ) (f : ℕ → ℕ → ℕ) → sumBelow m (λ i. sumBelow n (λ j. f i j)) ≡ sumBelow n (λ j. sumBelow m (λ i. f i j))
+sum-swap : (m n : ℕ) (f : ℕ → ℕ → ℕ) → sumBelow m (λ i. sumBelow n (λ j. f i j)) ≡ sumBelow n (λ j. sumBelow m (λ i. f i j))
 unfolding sumBelow
 sum-swap zero n f = sym (sum-zero n)
 sum-swap (suc m) n f =
     ap (λ (s : ℕ). s + sumBelow n (f m)) (sum-swap m n f) ∙ sym (sum-plus n (λ j. sumBelow m (λ i. f i j)) (f m))
 
--- Where all but one are 0, the sum is that one.
-none-below : (n : ℕ) (f : ℕ → ℕ) → ((i : ℕ) → i < n → f i ≡ 0) → sumBelow n f ≡ 0
-none-below n f h = sum-same n f (λ i. 0) h ∙ sum-zero n
+-- Where all are 0, so is the sum.
+sum-none : (n : ℕ) (f : ℕ → ℕ) → ((i : ℕ) → i < n → f i ≡ 0) → sumBelow n f ≡ 0
+sum-none n f h = sum-same n f (λ i. 0) h ∙ sum-zero n
 
-pub sum-single : (n : ℕ) (f : ℕ → ℕ) (at : ℕ) → at < n → ((i : ℕ) → i < n → (i ≡ at → ⊥) → f i ≡ 0) → sumBelow n f ≡ f at
+-- Where all but one are 0, the sum is that one.
+sum-single : (n : ℕ) (f : ℕ → ℕ) (at : ℕ) → at < n → ((i : ℕ) → i < n → (i ≡ at → ⊥) → f i ≡ 0) → sumBelow n f ≡ f at
 unfolding sumBelow
 sum-single zero f at h others = absurd (omega arith)
 sum-single (suc n) f at h others =
     equal-or-not at n
-    (λ last. rw (none-below n f (λ i k. others i (omega arith) (λ same. absurd (omega arith))), last) (zero-add (f n)))
+    (λ last. rw (sum-none n f (λ i k. others i (omega arith) (λ same. absurd (omega arith))), last) (zero-add (f n)))
     (λ before.
     let ends : f n ≡ 0 = others n (omega arith) (λ same. before (sym same)) in
     let rest : sumBelow n f ≡ f at = sum-single n f at (omega arith) (λ i k. others i (omega arith)) in
@@ -98,7 +99,7 @@ module _ (n : ℕ) (f g : ℕ → ℕ) (f-below : (i : ℕ) → i < n → f i < 
       sum-single n (λ i. only i j) (g j) (g-below j k) (λ i l other. rw (ne-eqb (f i) j (λ same. other (sym (g-f i l) ∙ ap g same))))
       ∙ rw (eq-eqb (f (g j)) j (f-g j k))
 
-  pub sum-reordered : sumBelow n (λ i. h (f i)) ≡ sumBelow n h
+  sum-reordered : sumBelow n (λ i. h (f i)) ≡ sumBelow n h
   sum-reordered = sum-same n (λ i. h (f i)) (λ i. sumBelow n (only i)) by-value ∙ sum-swap n n only ∙ sum-same n (λ j. sumBelow n (λ i. only i j)) h by-index
 
 -- ---- Counts
@@ -115,7 +116,7 @@ count-le n t u h =
 
 pub count-none : (n : ℕ) (t : ℕ → Bool) → ((i : ℕ) → i < n → t i ≡ false) → countBelow n t ≡ 0
 unfolding countBelow
-count-none n t h = none-below n (λ i. cond (t i) 1 0) (λ i k. rw (h i k))
+count-none n t h = sum-none n (λ i. cond (t i) 1 0) (λ i k. rw (h i k))
 
 pub count-append : (m n : ℕ) (t : ℕ → Bool) → countBelow (m + n) t ≡ countBelow m t + countBelow n (λ i. t (m + i))
 unfolding countBelow
@@ -148,10 +149,6 @@ count-kept n t e = rw (add-one n) (count-skipped n t e)
 pub count-raised : (n : ℕ) (t : ℕ → Bool) → t n ≡ true → countBelow (n + 1) t ≡ countBelow n t + 1
 count-raised n t e = rw (add-one n) (count-last n t e)
 
-count-more : (n : ℕ) (t : ℕ → Bool) → countBelow n t ≤ countBelow (suc n) t
-unfolding countBelow sumBelow
-count-more n t = omega arith
-
 -- Below a higher bound no fewer pass.
 pub count-up-to : (m n : ℕ) (t : ℕ → Bool) → m ≤ n → countBelow m t ≤ countBelow n t
 count-up-to m n t h =
@@ -164,17 +161,17 @@ count-one zero t at h e = absurd (omega arith)
 count-one (suc n) t at h e =
     equal-or-not at n
     (λ last. let here : t n ≡ true = rw last at e in omega (arith, count-last n t here))
-    (λ before. omega (arith, count-one n t at (omega arith) e, count-more n t))
+    (λ before. omega (arith, count-one n t at (omega arith) e, count-up-to n (suc n) t (omega arith)))
 
 pub count-two : (n : ℕ) (t : ℕ → Bool) (i j : ℕ) → i < j → j < n → t i ≡ true → t j ≡ true → 2 ≤ countBelow n t
 count-two zero t i j h k e f = absurd (omega arith)
 count-two (suc n) t i j h k e f =
     equal-or-not j n
     (λ last. let here : t n ≡ true = rw last at f in omega (arith, count-last n t here, count-one n t i (omega arith) e))
-    (λ before. omega (arith, count-two n t i j h (omega arith) e f, count-more n t))
+    (λ before. omega (arith, count-two n t i j h (omega arith) e f, count-up-to n (suc n) t (omega arith)))
 
 -- What is counted is found.
-pub count-found : (n : ℕ) (t : ℕ → Bool) → 1 ≤ countBelow n t → (i : ℕ) × ((i < n) × (t i ≡ true))
+count-found : (n : ℕ) (t : ℕ → Bool) → 1 ≤ countBelow n t → (i : ℕ) × ((i < n) × (t i ≡ true))
 count-found zero t h = absurd (omega (arith, count-none 0 t (λ i k. absurd (omega arith))))
 count-found (suc n) t h =
     by-test (t n)

@@ -1,4 +1,5 @@
--- Laws of lists by their places: a list by a rule, the first place where a test fails, and whether two lists are the same.
+-- Laws of lists by their places: a list from an index on, a list by a rule, the first place where a test fails, the index of a number,
+-- and whether two lists are the same.
 use mathlib.Core.Path.{_≡_, refl, sym, ap, _∙_}
 use Prim.Native.Nat.{ℕ, zero, suc, _+_, _≤_, _<_}
 use native.Mathlib.Nat.{add-suc, add-zero, suc-add, zero-add}
@@ -9,9 +10,9 @@ use mathlib.Core.List.{List, [], _∷_, _++_}
 use lib.Dec.{eqb}
 use lib.ListN.{length, getD, drop, length-drop, drop-of-length-le}
 use lib.Seq.{drop-cons, drop-drop, getD-drop, ext-getD}
-use borrow.Author.Tests.{eqb-true, eq-eqb}
-use Rattle.basics.specs.Lists.{tabulate, firstFailing, sameList}
-use Rattle.basics.proofs.Choice.{both-true, by-test}
+use borrow.Author.Tests.{eqb-true, eq-eqb, ne-eqb}
+use Rattle.basics.specs.Lists.{tabulate, firstFailing, indexIn, sameList}
+use Rattle.basics.proofs.Choice.{both-true, by-test, equal-or-not}
 
 -- ---- A list from an index on
 
@@ -47,6 +48,10 @@ pub by-rule : (n : ℕ) (f : ℕ → ℕ) (xs : List ℕ) → length xs ≡ n �
 by-rule n f xs e rule =
     ext-getD 0 xs (tabulate n f) (rw (e, length-tabulate n f))
     (λ i h. let within : i < n = omega arith in rw (rule i within, getD-tabulate n f i within))
+
+-- A list is what stands at its places.
+pub by-places : (n : ℕ) (xs : List ℕ) → length xs ≡ n → xs ≡ tabulate n (λ i. getD xs i 0)
+by-places n xs e = by-rule n (λ i. getD xs i 0) xs e (λ i h. refl)
 
 -- ---- The first place where a test fails
 
@@ -191,6 +196,19 @@ module _ {A : Type 0} (test : ℕ → A → Bool) where
     pub search-over : length xs ≤ i → firstFailing test place (drop i xs) ≡ place
     unfolding firstFailing
     search-over h = rw (drop-of-length-le xs h)
+
+-- ---- The index of a number
+
+-- What stands at a number's index is the number.
+pub getD-indexIn : (n : ℕ) (xs : List ℕ) (d : ℕ) → indexIn n xs < length xs → getD xs (indexIn n xs) d ≡ n
+unfolding indexIn
+getD-indexIn n [] d h = absurd (omega arith)
+getD-indexIn n (x ∷ xs) d h =
+    equal-or-not n x
+    (λ e. rw (eq-eqb n x e) (sym e))
+    (λ other.
+    let t = ne-eqb n x other in
+    rw t (getD-indexIn n xs d (omega (arith, rw t at h))))
 
 -- ---- Whether two lists are the same
 

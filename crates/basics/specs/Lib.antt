@@ -1,5 +1,5 @@
--- `Test`: tests on numbers that several layers' definitions make. `Lists`: lists by their places. `Below`: sums, counts and least values
--- over the numbers below n. `Ascii`: text as bytes.
+-- `Test`: tests on numbers that several layers' definitions make. `Lists`: lists by their places. `Below`: sums, counts, the
+-- last that passes and least values over the numbers below n. `Ascii`: text as bytes.
 pub mod Test
 pub mod Lists
 pub mod Below

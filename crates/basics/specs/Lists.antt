@@ -1,5 +1,5 @@
--- Lists by their places: a list by a rule, the first place where a test fails, the first test that is false, and whether two lists are
--- the same.
+-- Lists by their places: a list by a rule, the first place where a test fails, the first test that is false, the index of a number, and
+-- whether two lists are the same.
 use Prim.Native.Nat.{ℕ, zero, suc}
 use mathlib.Core.Bool.{Bool, true, false, cond, _&&_}
 use mathlib.Core.List.{List, [], _∷_}
@@ -15,9 +15,18 @@ unfoldable pub firstFailing : {A : Type 0} → (ℕ → A → Bool) → ℕ → 
 firstFailing test place [] = place
 firstFailing test place (x ∷ xs) = cond (test place x) (firstFailing test (suc place) xs) place
 
--- The place of the first test that is false, the first having the given one; past the last where there is none.
-abbrev pub firstFalse : ℕ → List Bool → ℕ
-firstFalse place tests = firstFailing (λ (p : ℕ) (t : Bool). t) place tests
+-- A test, as a test of an element of a list.
+abbrev pub isTrue : ℕ → Bool → Bool
+isTrue place test = test
+
+-- The place of the first test that is false; past the last where there is none.
+abbrev pub firstFalse : List Bool → ℕ
+firstFalse tests = firstFailing isTrue 0 tests
+
+-- The index of a number in a list; the list's length where it isn't there.
+unfoldable pub indexIn : ℕ → List ℕ → ℕ
+indexIn n [] = 0
+indexIn n (x ∷ xs) = cond (eqb n x) 0 (suc (indexIn n xs))
 
 -- The two lists are the same.
 unfoldable pub sameList : List ℕ → List ℕ → Bool

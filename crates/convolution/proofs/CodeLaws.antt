@@ -1,7 +1,7 @@
 -- Laws of the convolutional code: the clocked bits, the two registers, and parity under a mask whose lowest bit is 1.
 use mathlib.Core.Path.{_≡_, refl, ap, _∙_}
 use Prim.Native.Nat.{ℕ, zero, suc, _+_, _-_, _*_, _/_, _%_, _^_, _≤_, _<_, min}
-use native.Mathlib.Nat.{mod-lt, pow-suc, mul-comm}
+use native.Mathlib.Nat.{mod-lt, pow-succ'}
 use native.Mathlib.Omega.{arith}
 use mathlib.Core.List.{List, [], _∷_, _++_}
 use lib.Bits.{bitAnd, bitOr, and-step, or-shifted}
@@ -9,8 +9,8 @@ use lib.Count.{ones, ones-step}
 use lib.ListN.{length, getD, replicate, length-append, length-replicate, getD-replicate, List·getD-append, List·getD-eq-default}
 use lib.Seq.{getD-append-add}
 use Rattle.basics.proofs.Choice.{below-or-not}
-use Rattle.radix.specs.Numeral.{Digits, Positive, count, digitsOf}
-use Rattle.radix.proofs.Laws.{digits-length, digits-in-range}
+use Rattle.radix.specs.Numeral.{Digits, Positive, count, numberOf, digitsOf}
+use Rattle.radix.proofs.Laws.{digits-length, digits-in-range, numberOf-digitsOf}
 use Rattle.convolution.specs.Code.{bitsOf, clockedBits, clocked, firstMask, secondMask, parity, codedFrom, codedBits}
 
 -- ---- The bits of a word
@@ -18,7 +18,7 @@ use Rattle.convolution.specs.Code.{bitsOf, clockedBits, clocked, firstMa
 pub count-bits : (n : ℕ) → count (replicate n 2) ≡ 2 ^ n
 unfolding count
 count-bits zero = refl
-count-bits (suc n) = rw (count-bits n, pow-suc 2 n) (mul-comm 2 (2 ^ n))
+count-bits (suc n) = rw (count-bits n, pow-succ' 2 n)
 
 pub positive-bits : (n : ℕ) → Positive (replicate n 2)
 unfolding Positive
@@ -28,6 +28,11 @@ positive-bits (suc n) = (omega arith, positive-bits n)
 pub bits-in-range : (n number : ℕ) → Digits (replicate n 2) (bitsOf n number)
 unfolding bitsOf
 bits-in-range n number = digits-in-range (replicate n 2) number (positive-bits n)
+
+-- They write it.
+pub bits-number : (n : ℕ) {number : ℕ} → number < 2 ^ n → numberOf (replicate n 2) (bitsOf n number) ≡ number
+unfolding bitsOf
+bits-number n h = numberOf-digitsOf (replicate n 2) (positive-bits n) (rw (count-bits n) h)
 
 pub length-bitsOf : (n number : ℕ) → length (bitsOf n number) ≡ n
 length-bitsOf n number = digits-length (replicate n 2) (bitsOf n number) (bits-in-range n number) ∙ length-replicate n 2
@@ -51,9 +56,9 @@ clocked-first word step h =
     List·getD-append (bitsOf 50 word) (replicate 31 0) 0 step (omega (arith, length-bitsOf 50 word))
     ∙ getD-bitsOf 50 word step (49 - step) (omega arith)
 
-pub clocked-last : (word step : ℕ) → 50 ≤ step → step < 81 → getD (clockedBits word) step 0 ≡ 0
+pub clocked-later : (word step : ℕ) → 50 ≤ step → step < 81 → getD (clockedBits word) step 0 ≡ 0
 unfolding clockedBits
-clocked-last word step h k =
+clocked-later word step h k =
     let past : step ≡ length (bitsOf 50 word) + (step - 50) = omega (arith, length-bitsOf 50 word) in
     ap (λ (i : ℕ). getD (bitsOf 50 word ++ replicate 31 0) i 0) past
     ∙ getD-append-add (bitsOf 50 word) (replicate 31 0) (step - 50) 0
@@ -65,7 +70,7 @@ clocked-below word step =
     (λ first. rw (clocked-first word step first) (mod-lt (word / 2 ^ (49 - step)) (omega arith)))
     (λ h.
     below-or-not step 81
-    (λ last. rw (clocked-last word step h last) (omega arith))
+    (λ last. rw (clocked-later word step h last) (omega arith))
     (λ past. rw (List·getD-eq-default (clockedBits word) 0 {n = step} (rw (length-clockedBits word) past)) (omega arith)))
 
 -- ---- The registers
@@ -116,7 +121,7 @@ pub parity-below : (mask register : ℕ) → parity mask register < 2
 unfolding parity
 parity-below mask register = mod-lt (ones (bitAnd register mask)) (omega arith)
 
-coded-below : (first second : ℕ) (bits : List ℕ) (i : ℕ) → getD (codedFrom first second bits) i 0 < 2
+pub coded-below : (first second : ℕ) (bits : List ℕ) (i : ℕ) → getD (codedFrom first second bits) i 0 < 2
 unfolding codedFrom
 coded-below first second [] i = omega arith
 coded-below first second (bit ∷ bits) zero = parity-below firstMask (clocked first bit)
@@ -135,23 +140,23 @@ pub second-odd : secondMask % 2 ≡ 1
 unfolding secondMask
 second-odd = refl
 
+-- The places where both have a 1: the lowest, then the rest.
+pub ones-and : (x mask : ℕ) → ones (bitAnd x mask) ≡ min (x % 2) (mask % 2) + ones (bitAnd (x / 2) (mask / 2))
+ones-and x mask =
+    let rest = bitAnd (x / 2) (mask / 2) in
+    let lowest = min (x % 2) (mask % 2) in
+    let small : x % 2 < 2 = mod-lt x (omega arith) in
+    let odd : (rest * 2 + lowest) % 2 ≡ lowest = omega arith in
+    let half : (rest * 2 + lowest) / 2 ≡ rest = omega arith in
+    rw (and-step x mask, ones-step (rest * 2 + lowest), odd, half)
+
 -- Under a mask whose lowest bit is 1 the new bit counts: the older bits' parity, plus the new bit.
 parity-clocked : (mask register bit : ℕ) → mask % 2 ≡ 1 → bit < 2
     → parity mask (clocked register bit) ≡ (bit + ones (bitAnd (register % 2 ^ 31) (mask / 2))) % 2
 unfolding parity
 parity-clocked mask register bit odd h =
-    let x = bitAnd (register % 2 ^ 31) (mask / 2) in
-    let newest : (x * 2 + min bit 1) % 2 ≡ bit = omega arith in
-    let older : (x * 2 + min bit 1) / 2 ≡ x = omega arith in
-    rw (
-      and-step (clocked register bit) mask,
-      clocked-older register bit h,
-      clocked-newest register bit h,
-      odd,
-      ones-step (x * 2 + min bit 1),
-      newest,
-      older,
-    )
+    let newest : min bit 1 ≡ bit = omega arith in
+    rw (ones-and (clocked register bit) mask, clocked-newest register bit h, clocked-older register bit h, odd, newest)
 
 -- So the coded bits of a 0 and of a 1 differ.
 pub parity-other : (mask register : ℕ) → mask % 2 ≡ 1 → parity mask (clocked register 0) + parity mask (clocked register 1) ≡ 1

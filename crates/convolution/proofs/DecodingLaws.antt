@@ -1,6 +1,6 @@
 -- Coded bits determine the clocked bits: the word that is decoded is the only one that may have them.
 use mathlib.Core.Path.{_≡_, refl, sym, ap, _∙_}
-use Prim.Native.Nat.{ℕ, zero, suc, _+_, _^_, _<_}
+use Prim.Native.Nat.{ℕ, zero, suc, _^_, _<_}
 use native.Mathlib.Omega.{arith}
 use mathlib.Core.List.{List, [], _∷_, _++_}
 use lib.Dec.{eqb}
@@ -8,10 +8,10 @@ use lib.ListN.{getD, drop, replicate}
 use borrow.Author.Tests.{eq-eqb, ne-eqb}
 use Rattle.basics.proofs.Choice.{by-test}
 use Rattle.radix.specs.Numeral.{Digits, numberOf}
-use Rattle.radix.proofs.Laws.{number-below, numberOf-digitsOf}
+use Rattle.radix.proofs.Laws.{number-below}
 use Rattle.convolution.specs.Code.{bitsOf, clockedBits, clocked, firstMask, parity, codedFrom, codedBits}
 use Rattle.convolution.specs.Decoding.{nextBit, decodedFrom, decodedWord, OnlyWord}
-use Rattle.convolution.proofs.CodeLaws.{count-bits, positive-bits, bits-in-range, first-odd, parity-other}
+use Rattle.convolution.proofs.CodeLaws.{count-bits, bits-in-range, bits-number, first-odd, parity-other}
 
 -- ---- One bit
 
@@ -39,7 +39,7 @@ nextBit-clocked register (suc (suc bit)) h = absurd (omega arith)
 
 -- ---- All bits
 
-pub decoded-in-range : (n register : ℕ) (coded : List ℕ) → Digits (replicate n 2) (decodedFrom n register coded)
+decoded-in-range : (n register : ℕ) (coded : List ℕ) → Digits (replicate n 2) (decodedFrom n register coded)
 unfolding Digits decodedFrom
 decoded-in-range zero register coded = tt
 decoded-in-range (suc n) register coded =
@@ -64,10 +64,10 @@ decodedWord-below coded =
     rw (← count-bits 50) (number-below (replicate 50 2) (decodedFrom 50 0 coded) (decoded-in-range 50 0 coded))
 
 pub decode-encode : (word : ℕ) → word < 2 ^ 50 → decodedWord (codedBits word) ≡ word
-unfolding decodedWord codedBits clockedBits bitsOf
+unfolding decodedWord codedBits clockedBits
 decode-encode word h =
     ap (numberOf (replicate 50 2)) (decodedFrom-codedFrom 50 0 (bitsOf 50 word) (replicate 31 0) (bits-in-range 50 word))
-    ∙ numberOf-digitsOf (replicate 50 2) (positive-bits 50) (rw (count-bits 50) h)
+    ∙ bits-number 50 h
 
 pub only-word : (coded : List ℕ) → OnlyWord coded (decodedWord coded)
 only-word coded = (decodedWord-below coded, λ other h e. sym (decode-encode other h) ∙ ap decodedWord e)

@@ -2,4 +2,4 @@
 -- the loops of `encode` and `decode`.
 pub mod CodeLaws
 pub mod DecodingLaws
-pub mod Turns
+mod Turns

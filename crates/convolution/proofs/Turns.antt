@@ -20,7 +20,6 @@ use Rattle.convolution.proofs.DecodingLaws.{nextBit-below}
 
 -- Before a turn: the coded bits of the steps so far are written, and the others are those of the register and the bits from here on.
 pub record Encoding (word : ℕ) (coded : List ℕ) (register step : ℕ) : Type 0 where
-  pub within : step ≤ 81
   pub filled : Filling (codedBits word) coded (2 * step)
   pub rest : drop (2 * step) (codedBits word) ≡ codedWith register (drop step (clockedBits word))
 
@@ -28,7 +27,6 @@ pub encoding-starts : (word : ℕ) → Encoding word (replicate 162 0) 0 0
 unfolding codedBits
 encoding-starts word =
     record {
-      within = omega arith;
       filled = fill-starts (codedBits word) (replicate 162 0) (rw (length-codedBits word));
       rest = both-registers 0 (clockedBits word);
     }
@@ -52,7 +50,6 @@ module _ (word : ℕ) (coded : List ℕ) (register step : ℕ) (before : step < 
         let two = fill-turn (codedBits word) _ (2 * step + 1) second (omega arith) is-second one in
         let twice : 2 * (step + 1) ≡ 2 * step + 2 = omega arith in
         record {
-          within = omega arith;
           filled = subst (λ (i : ℕ). Filling (codedBits word) (set (set coded (2 * step) first) (2 * step + 1) second) i) (omega arith) two;
           rest = rw (twice, ← drop-drop 2 (2 * step) (codedBits word), split, add-one);
         }
@@ -65,13 +62,12 @@ encoding-ends word coded register step h now =
 
 -- Before a turn: the word so far, and the bits from here on, make the word.
 pub record Decoding (coded : List ℕ) (word register step : ℕ) : Type 0 where
-  pub within : step ≤ 50
   pub word-below : word < 2 ^ step
   pub rest : numberFrom word (replicate (50 - step) 2) (decodedFrom (50 - step) register (drop (2 * step) coded)) ≡ decodedWord coded
 
 pub decoding-starts : (coded : List ℕ) → Decoding coded 0 0 0
 unfolding decodedWord numberOf
-decoding-starts coded = record { within = omega arith; word-below = omega arith; rest = refl }
+decoding-starts coded = record { word-below = omega arith; rest = refl }
 
 pub decoding-fits : (coded : List ℕ) (word register step bit : ℕ) → step < 50 → Decoding coded word register step → bit < 2
     → word * 2 + bit < 2 ^ 50
@@ -87,7 +83,6 @@ decoding-turn coded word register step bit next h now e e₂ =
     let left : 50 - step ≡ suc (50 - (step + 1)) = omega arith in
     let twice : 2 * (step + 1) ≡ 2 * step + 2 = omega arith in
     record {
-      within = omega arith;
       word-below = rw (add-one step, pow-suc 2 step) (omega (arith, now .word-below));
       rest = rw (twice, ← drop-drop 2 (2 * step) coded, e₂, e) (rw (left, head-at (2 * step) coded) at (now .rest));
     }

@@ -25,7 +25,7 @@ firstMask = 0xF2D0_5351
 unfoldable pub secondMask : ℕ
 secondMask = 0xE461_3C47
 
--- The parity of a register under a mask: how many of the bits that both have are 1, modulo 2.
+-- The parity of a register under a mask: in how many places both have a 1, modulo 2.
 unfoldable pub parity : ℕ → ℕ → ℕ
 parity mask register = ones (bitAnd register mask) % 2
 

@@ -1,5 +1,5 @@
--- Back from coded bits: the one word that may have them. 01 has no words for this direction, and none has to be believed: `OnlyWord`, which
--- `decode` promises, leaves no other.
+-- Back from coded bits: the one word that may have them. 01 has no words for this direction, and none has to be believed: where a word has
+-- these coded bits, `OnlyWord`, which `decode` promises, leaves no other; where none has, a reader finds that by comparing.
 use mathlib.Core.Path.{_≡_}
 use Prim.Native.Nat.{ℕ, zero, suc, _^_, _<_}
 use mathlib.Core.Bool.{cond}

@@ -1,17 +1,18 @@
 -- How many lists of m bits pass a test: the same as how many numbers below 2^m whose bits do, and unchanged by a sum with fixed bits.
-use mathlib.Core.Path.{_≡_, refl, sym, ap, ap₂, _∙_}
-use Prim.Native.Nat.{ℕ, zero, suc, _+_, _*_, _/_, _%_, _^_, _<_}
-use native.Mathlib.Nat.{pow-suc, add-comm, mul-comm, mul-assoc, div-eq-of-lt, add-mul-div-right}
+use mathlib.Core.Path.{_≡_, refl, ap, ap₂, _∙_}
+use Prim.Native.Nat.{ℕ, zero, suc, _+_, _*_, _^_, _<_}
+use native.Mathlib.Nat.{pow-suc, add-comm, div-eq-of-lt, add-mul-div-right}
 use native.Mathlib.Omega.{arith}
 use mathlib.Core.Bool.{Bool, cond}
 use mathlib.Core.List.{List, [], _∷_}
-use lib.ListN.{length}
+use lib.ListN.{length, replicate}
 use lib.Pow.{pow-pos}
 use Rattle.basics.specs.Below.{countBelow}
 use Rattle.basics.proofs.BelowLaws.{count-same, count-append, count-of-one}
-use Rattle.radix.specs.Numeral.{digitsOf}
+use Rattle.radix.specs.Numeral.{count, digitsOf}
+use Rattle.radix.proofs.Laws.{digitsOf-front}
 use Rattle.convolution.specs.Code.{bitsOf}
-use Rattle.convolution.proofs.CodeLaws.{count-bits}
+use Rattle.convolution.proofs.CodeLaws.{count-bits, positive-bits}
 use Rattle.distance.proofs.Bits.{AllBits, summed}
 
 -- Those with a first bit 0, and those with a first bit 1.
@@ -30,15 +31,6 @@ countBits-same (suc m) t u h =
 
 -- ---- Bits of numbers
 
--- The m lowest bits don't depend on the higher ones.
-bits-below : (m n q : ℕ) → bitsOf m (n + q * 2 ^ m) ≡ bitsOf m n
-unfolding bitsOf digitsOf
-bits-below zero n q = refl
-bits-below (suc m) n q =
-    let higher : q * 2 ^ suc m ≡ q * 2 * 2 ^ m = rw (pow-suc 2 m, mul-comm (2 ^ m) 2) (sym (mul-assoc q 2 (2 ^ m))) in
-    let first : (n / 2 ^ m + q * 2) % 2 ≡ n / 2 ^ m % 2 = omega arith in
-    rw (higher, count-bits m, add-mul-div-right n (q * 2) (pow-pos m), first, bits-below m n (q * 2))
-
 first-zero : (m n : ℕ) → n < 2 ^ m → bitsOf (suc m) n ≡ 0 ∷ bitsOf m n
 unfolding bitsOf digitsOf
 first-zero m n h = rw (count-bits m, div-eq-of-lt h)
@@ -47,7 +39,10 @@ first-one : (m n : ℕ) → n < 2 ^ m → bitsOf (suc m) (2 ^ m + n) ≡ 1 ∷ b
 unfolding bitsOf digitsOf
 first-one m n h =
     let last : 2 ^ m + n ≡ n + 1 * 2 ^ m = omega arith in
-    rw (last, count-bits m, add-mul-div-right n 1 (pow-pos m), div-eq-of-lt h, bits-below m n 1)
+    let front : 2 ^ m + n ≡ 1 * count (replicate m 2) + n = rw (count-bits m) (omega arith) in
+    let others : digitsOf (replicate m 2) (2 ^ m + n) ≡ digitsOf (replicate m 2) n =
+    rw front (digitsOf-front (replicate m 2) 1 n (positive-bits m)) in
+    rw (others, last, count-bits m, add-mul-div-right n 1 (pow-pos m), div-eq-of-lt h)
 
 pub count-by-bits : (m : ℕ) (test : List ℕ → Bool) → countBelow (2 ^ m) (λ number. test (bitsOf m number)) ≡ countBits m test
 unfolding countBits bitsOf digitsOf

@@ -14,7 +14,7 @@ use Rattle.basics.proofs.Choice.{equal-or-not}
 use Rattle.radix.specs.Numeral.{Digits}
 use Rattle.convolution.specs.Code.{bitsOf}
 use Rattle.convolution.proofs.CodeLaws.{bits-in-range}
-use Rattle.distance.specs.Prefixes.{differences}
+use Rattle.distance.specs.Prefixes.{unlike, differences}
 
 -- ---- Bits
 
@@ -99,10 +99,6 @@ summed-twice (x ∷ xs) (y ∷ ys) h k l =
     rw (same, summed-twice xs ys (h .1) (k .1) (omega arith))
 
 -- ---- Differences
-
--- 1 where they differ.
-abbrev pub unlike : ℕ → ℕ → ℕ
-unlike x y = cond (eqb x y) 0 1
 
 alike : (x y : ℕ) → x ≡ y → unlike x y ≡ 0
 alike x y e = rw (eq-eqb x y e)

@@ -5,7 +5,7 @@
 -- passed.
 pub mod Bits
 pub mod Linear
-pub mod BitCounts
+mod BitCounts
 pub mod PrefixLaws
 pub mod Recentred
 pub mod Tree

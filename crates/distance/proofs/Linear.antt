@@ -5,25 +5,22 @@ use native.Mathlib.Nat.{mod-lt}
 use native.Mathlib.Omega.{arith}
 use mathlib.Core.List.{List, [], _∷_, _++_}
 use lib.Arith.{bin-ind}
-use lib.Bits.{bitAnd, bitXor, differ, and-step, xor-step, xor-mod, xor-shr, and-zero-r}
-use lib.Count.{ones, ones-step}
+use lib.Bits.{bitAnd, bitXor, differ, xor-step, xor-mod, xor-shr, and-zero-r}
+use lib.Count.{ones}
 use lib.ListN.{length, replicate}
 use Rattle.radix.specs.Numeral.{digitsOf}
 use Rattle.convolution.specs.Code.{bitsOf, clockedBits, clocked, firstMask, secondMask, parity, codedFrom, codedBits}
-use Rattle.convolution.proofs.CodeLaws.{count-bits, length-bitsOf}
+use Rattle.convolution.proofs.CodeLaws.{count-bits, length-bitsOf, ones-and}
 use Rattle.distance.proofs.Bits.{AllBits, bits-append, bits-zeros, bits-bitsOf, summed, summed-append, summed-zeros}
 
 -- ---- Parity
 
--- Of the bits that both have, the lowest, then the rest.
-ones-and : (x mask : ℕ) → ones (bitAnd x mask) ≡ min (x % 2) (mask % 2) + ones (bitAnd (x / 2) (mask / 2))
-ones-and x mask =
-    let rest = bitAnd (x / 2) (mask / 2) in
-    let lowest = min (x % 2) (mask % 2) in
-    let small : x % 2 < 2 = mod-lt x (omega arith) in
-    let odd : (rest * 2 + lowest) % 2 ≡ lowest = omega arith in
-    let half : (rest * 2 + lowest) / 2 ≡ rest = omega arith in
-    rw (and-step x mask, ones-step (rest * 2 + lowest), odd, half)
+differ-small : (x y : ℕ) → x < 2 → y < 2 → differ x y ≡ (x + y) % 2
+differ-small zero y h k = omega arith
+differ-small (suc zero) zero h k = refl
+differ-small (suc zero) (suc zero) h k = refl
+differ-small (suc zero) (suc (suc y)) h k = absurd (omega arith)
+differ-small (suc (suc x)) y h k = absurd (omega arith)
 
 -- One bit of a sum under one bit of a mask.
 min-sum : (x y m : ℕ) → x < 2 → y < 2 → m < 2 → min (differ x y) m % 2 ≡ (min x m + min y m) % 2
@@ -32,13 +29,6 @@ min-sum (suc zero) zero m h k l = omega arith
 min-sum (suc zero) (suc zero) m h k l = omega arith
 min-sum (suc zero) (suc (suc y)) m h k l = absurd (omega arith)
 min-sum (suc (suc x)) y m h k l = absurd (omega arith)
-
-differ-small : (x y : ℕ) → x < 2 → y < 2 → differ x y ≡ (x + y) % 2
-differ-small zero y h k = omega arith
-differ-small (suc zero) zero h k = refl
-differ-small (suc zero) (suc zero) h k = refl
-differ-small (suc zero) (suc (suc y)) h k = absurd (omega arith)
-differ-small (suc (suc x)) y h k = absurd (omega arith)
 
 xor-half : (a b : ℕ) → bitXor a b / 2 ≡ bitXor (a / 2) (b / 2)
 xor-half a b = xor-shr a b 1
@@ -66,7 +56,7 @@ ones-sum =
     (min-sum (a % 2) (b % 2) (mask % 2) (mod-lt a (omega arith)) (mod-lt b (omega arith)) (mod-lt mask (omega arith)))
     (rest (a / 2) (b / 2))))
 
-pub parity-sum : (mask a b : ℕ) → parity mask (bitXor a b) ≡ (parity mask a + parity mask b) % 2
+parity-sum : (mask a b : ℕ) → parity mask (bitXor a b) ≡ (parity mask a + parity mask b) % 2
 unfolding parity
 parity-sum mask a b = ones-sum mask a b ∙ omega arith
 

@@ -1,4 +1,4 @@
--- Laws of prefixes: the prefixes of a word, and what a longer prefix adds.
+-- Laws of prefixes: how many there are, the prefixes of a word, which are live, and what a longer prefix adds.
 use mathlib.Core.Path.{_≡_, refl, sym, ap, _∙_}
 use Prim.Native.Nat.{ℕ, zero, suc, _+_, _-_, _*_, _/_, _^_, _≤_, _<_, min}
 use native.Mathlib.Nat.{add-comm, div-one, sub-self}
@@ -11,11 +11,10 @@ use lib.Seq.{take-append-le, take-append-seam, take-take}
 use borrow.Author.Tests.{le-leb, lt-leb, leb-true}
 use Rattle.basics.proofs.Choice.{below-or-not}
 use Rattle.radix.specs.Numeral.{numberOf, digitsOf}
-use Rattle.radix.proofs.Laws.{numberOf-digitsOf}
-use Rattle.convolution.specs.Code.{bitsOf, clockedBits, clocked, firstMask, secondMask, codedFrom, codedBits}
-use Rattle.convolution.proofs.CodeLaws.{count-bits, positive-bits, length-bitsOf, parity-below}
+use Rattle.convolution.specs.Code.{bitsOf, clockedBits, clocked, codedFrom, codedBits}
+use Rattle.convolution.proofs.CodeLaws.{count-bits, bits-number, length-bitsOf, coded-below}
 use Rattle.distance.specs.Prefixes.{freeOf, prefixBits, prefixesOf, differences, disagreements, wordDisagreements, isLive}
-use Rattle.distance.proofs.Bits.{AllBits, differences-grow}
+use Rattle.distance.proofs.Bits.{AllBits, bits-each, differences-grow}
 
 -- ---- The prefixes of a word
 
@@ -89,15 +88,13 @@ pub prefix-of-number : (k number : ℕ) → k ≤ 81 → prefixBits k number ≡
 prefix-of-number k number h = ap (prefixBits k) (sym (shl-shr number (50 - k))) ∙ sym (prefix-of-word k (number * 2 ^ (50 - k)) h)
 
 pub prefixBits-injective : (k m n : ℕ) → m < prefixesOf k → n < prefixesOf k → prefixBits k m ≡ prefixBits k n → m ≡ n
-unfolding prefixesOf prefixBits bitsOf
-prefixBits-injective k m n h l e = sym (number m h) ∙ ap (numberOf (replicate (freeOf k) 2)) (sym (free m) ∙ ap (take (freeOf k)) e ∙ free n) ∙ number n l
+unfolding prefixesOf prefixBits
+prefixBits-injective k m n h l e =
+    sym (bits-number (freeOf k) h) ∙ ap (numberOf (replicate (freeOf k) 2)) (sym (free m) ∙ ap (take (freeOf k)) e ∙ free n) ∙ bits-number (freeOf k) l
   where
     free : (i : ℕ) → take (freeOf k) (prefixBits k i) ≡ bitsOf (freeOf k) i
     free i =
         rw (length-bitsOf (freeOf k) i) at (take-append-seam (bitsOf (freeOf k) i) (replicate (k - freeOf k) 0))
-
-    number : (i : ℕ) → i < 2 ^ freeOf k → numberOf (replicate (freeOf k) 2) (bitsOf (freeOf k) i) ≡ i
-    number i below = numberOf-digitsOf (replicate (freeOf k) 2) (positive-bits (freeOf k)) (rw (count-bits (freeOf k)) below)
 
 pub length-prefixBits : (k number : ℕ) → length (prefixBits k number) ≡ k
 unfolding prefixBits
@@ -106,7 +103,7 @@ length-prefixBits k number =
     let zeros : List ℕ = replicate (k - freeOf k) 0 in
     omega (arith, length-append first zeros, length-bitsOf (freeOf k) number, length-replicate {A = ℕ} (k - freeOf k) 0, free-most k)
 
-pub word-prefix : (word : ℕ) → prefixBits 81 word ≡ clockedBits word
+word-prefix : (word : ℕ) → prefixBits 81 word ≡ clockedBits word
 unfolding prefixBits clockedBits
 word-prefix word = rw (free-later 81 (omega arith))
 
@@ -150,10 +147,7 @@ codedFrom-append first second [] more = refl
 codedFrom-append first second (bit ∷ bits) more = rw (codedFrom-append (clocked first bit) (clocked second bit) bits more)
 
 pub bits-codedFrom : (first second : ℕ) (bits : List ℕ) → AllBits (codedFrom first second bits)
-unfolding codedFrom AllBits
-bits-codedFrom first second [] = tt
-bits-codedFrom first second (bit ∷ bits) =
-    (parity-below firstMask (clocked first bit), (parity-below secondMask (clocked second bit), bits-codedFrom (clocked first bit) (clocked second bit) bits))
+bits-codedFrom first second bits = bits-each (codedFrom first second bits) (λ i h. coded-below first second bits i)
 
 pub bits-codedBits : (word : ℕ) → AllBits (codedBits word)
 unfolding codedBits

@@ -54,7 +54,7 @@ module _ (word : ℕ) (flips : List ℕ) (are-bits : AllBits flips) where
       ap (disagreements received) (sym apart)
       ∙ disagreements-recentred sent (drop k (clockedBits word)) (bits ++ zeros) split same sent-bits (bits-append bits zeros b (bits-zeros (k - freeOf k)))
 
-  pub liveOf-recentred : (limit k : ℕ) → k ≤ 81 → liveOf received limit k ≡ liveOf flips limit k
+  liveOf-recentred : (limit k : ℕ) → k ≤ 81 → liveOf received limit k ≡ liveOf flips limit k
   unfolding liveOf prefixesOf prefixBits
   liveOf-recentred limit k h =
       let m = freeOf k in
@@ -92,7 +92,6 @@ unfolding codedBits clockedBits bitsOf digitsOf count codedFrom clocked parity f
 codedBits-zero = refl
 
 -- A word's own coded bits count as those of the zero word do.
-
 own-bits : (word : ℕ) → summed (codedBits word) zeroBits ≡ codedBits word
 own-bits word = summed-unchanged 162 (codedBits word) (bits-codedBits word) (omega (arith, length-codedBits word))
 
@@ -122,7 +121,7 @@ module _ (word : ℕ) (received : List ℕ) (long : length received ≡ 162) whe
           let size : length coded ≤ length received = omega (arith, length-codedFrom 0 0 (prefixBits k number), length-prefixBits k number) in
           omega (arith, triangle coded received (codedBits word) size)
 
-  pub liveOf-flipped : (limit k : ℕ) → k ≤ 81 → liveOf received limit k ≤ liveOf (codedBits word) (limit + differences received (codedBits word)) k
+  liveOf-flipped : (limit k : ℕ) → k ≤ 81 → liveOf received limit k ≤ liveOf (codedBits word) (limit + differences received (codedBits word)) k
   unfolding liveOf
   liveOf-flipped limit k h =
       count-le (prefixesOf k) (λ number. isLive received limit (prefixBits k number))

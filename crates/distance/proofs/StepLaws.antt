@@ -12,12 +12,11 @@ use lib.Seq.{drop-cons}
 use borrow.Author.Tests.{lt-ltb, le-ltb}
 use Rattle.basics.proofs.Choice.{cond-both, below-or-not}
 use Rattle.radix.specs.Numeral.{digitsOf, numberFrom, numberOf}
-use Rattle.radix.proofs.Laws.{numberOf-digitsOf}
 use Rattle.convolution.specs.Code.{bitsOf, clocked, firstMask, secondMask, parity, codedFrom}
-use Rattle.convolution.proofs.CodeLaws.{count-bits, positive-bits, length-bitsOf, length-codedFrom, first-odd, second-odd, parity-other}
-use Rattle.distance.specs.Prefixes.{freeOf, prefixBits, prefixesOf, differences, disagreements}
+use Rattle.convolution.proofs.CodeLaws.{count-bits, bits-number, length-bitsOf, length-codedFrom, first-odd, second-odd, parity-other}
+use Rattle.distance.specs.Prefixes.{freeOf, prefixBits, prefixesOf, unlike, differences, disagreements}
 use Rattle.distance.specs.Steps.{branchesOf, childOf, parentOf, lastBranch, registerOf, stepCost, zeroCost, branchCost}
-use Rattle.distance.proofs.Bits.{AllBits, bits-drop, unlike, unlike-most, unlike-others, differences-append}
+use Rattle.distance.proofs.Bits.{AllBits, bits-drop, unlike-most, unlike-others, differences-append}
 use Rattle.distance.proofs.PrefixLaws.{free-first, free-later, all-free, length-prefixBits, registerAfter, codedFrom-append}
 
 -- ---- Branches
@@ -156,21 +155,20 @@ register-zeros n (suc j) =
 
 -- The register after a prefix, whose number has no bits but the prefix's.
 register-prefix : (k number : ℕ) → number < prefixesOf k → registerAfter 0 (prefixBits k number) ≡ registerOf k number
-unfolding prefixBits prefixesOf registerOf bitsOf numberOf
+unfolding prefixBits prefixesOf registerOf numberOf
 register-prefix k number h =
     let free = freeOf k in
-    let radices : List ℕ = replicate free 2 in
     let first : registerAfter 0 (bitsOf free number) ≡ number % 2 ^ 32 =
     register-number 0 (bitsOf free number)
-    ∙ rw (length-bitsOf free number, numberOf-digitsOf radices {n = number} (positive-bits free) (rw (count-bits free) h)) in
+    ∙ rw (length-bitsOf free number, bits-number free h) in
     rw (register-append 0 (bitsOf free number) (replicate (k - free) 0), first) (register-zeros number (k - free))
 
--- As code has it: the lowest 32 bits, shifted by the zeros.
+-- As code has it: up to the fiftieth bit the lowest 32 bits.
 pub register-first : (k : ℕ) → k < 50 → (number : ℕ) → registerOf k number ≡ number % 2 ^ 32
 unfolding registerOf
 register-first k h number = rw (free-first k (omega arith), sub-self k) (omega arith)
 
--- Both sides are the register after those zeros.
+-- After it, the lowest 32 bits shifted by the zeros.
 pub register-later : (k : ℕ) → 50 ≤ k → (number : ℕ) → registerOf k number ≡ number % 2 ^ 32 * 2 ^ (k - 50) % 2 ^ 32
 unfolding registerOf
 register-later k h number =

@@ -59,7 +59,8 @@ stepCost-computed : (received : List ℕ) (register : ℕ) → stepCost received
 unfolding stepCost stepCost32
 stepCost-computed received register = rw (parity-computed firstMask register first-small, parity-computed secondMask register second-small)
 
--- What is counted from a bit on, given what is counted after it: nothing where its prefix isn't live.
+-- What is counted from a bit on, given what is counted after it: nothing where its prefix isn't live. The cases of `elim` are computed only
+-- where they are taken, which prunes the tree.
 unfoldable pub step : (ℕ → List ℕ → ℕ → ℕ) → ℕ → List ℕ → ℕ → ℕ → ℕ
 step after register received limit bit =
     let next = clocked register bit in

@@ -19,7 +19,7 @@ hasFewest received word = eqb (wordDisagreements received word) (fewest received
 unfoldable pub sharing : List ℕ → ℕ
 sharing received = countBelow (2 ^ 50) (hasFewest received)
 
--- The word that has them, where only one does.
+-- The last word that has them: where only one does, that one (`nearest-only`, `only-nearest` of proofs/NearestLaws.antt).
 unfoldable pub nearest : List ℕ → ℕ
 nearest received = lastBelow (2 ^ 50) (hasFewest received)
 

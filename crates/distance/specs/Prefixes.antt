@@ -1,5 +1,6 @@
 -- Prefixes of the clocked bits, their disagreements with the received data bits, and the live count (01, 'Repair'). The prefixes are the
--- nodes of the code tree, the live ones those within the distance limit. `received` stands for the received data bits in S order.
+-- nodes of the code tree, the live ones those within the distance limit. `received` stands for the received data bits in coded
+-- order (01: S order).
 use Prim.Native.Nat.{ℕ, _+_, _-_, _^_, min}
 use mathlib.Core.Bool.{Bool, cond}
 use mathlib.Core.List.{List, [], _∷_, _++_}
@@ -13,7 +14,8 @@ unfoldable pub freeOf : ℕ → ℕ
 freeOf k = min k 50
 
 -- "A prefix is the first k of the 81 clocked bits, k from 1 to 81, with every bit after the fiftieth zero." Its free bits are those of a
--- number, so that the prefixes of k bits are numbered from 0 on.
+-- number, so that the prefixes of k bits are numbered from 0 on. That these are the first k clocked bits of all words, each numbered once,
+-- is `prefix-of-word`, `prefix-of-number` and `prefixBits-injective` of proofs/PrefixLaws.antt.
 unfoldable pub prefixBits : ℕ → ℕ → List ℕ
 prefixBits k number = bitsOf (freeOf k) number ++ replicate (k - freeOf k) 0
 
@@ -21,11 +23,15 @@ prefixBits k number = bitsOf (freeOf k) number ++ replicate (k - freeOf k) 0
 unfoldable pub prefixesOf : ℕ → ℕ
 prefixesOf k = 2 ^ freeOf k
 
+-- 1 where two bits differ, else 0.
+abbrev pub unlike : ℕ → ℕ → ℕ
+unlike x y = cond (eqb x y) 0 1
+
 -- In how many of the places that both lists have they differ.
 unfoldable pub differences : List ℕ → List ℕ → ℕ
 differences [] ys = 0
 differences (x ∷ xs) [] = 0
-differences (x ∷ xs) (y ∷ ys) = cond (eqb x y) 0 1 + differences xs ys
+differences (x ∷ xs) (y ∷ ys) = unlike x y + differences xs ys
 
 -- "Its disagreements are the number of its 2k coded bits that differ from the received data bits": its Hamming distance to them.
 unfoldable pub disagreements : List ℕ → List ℕ → ℕ

@@ -1,14 +1,14 @@
--- Laws of the interleaver: there are 162 places, each below 162; the place of a coded bit and the coded bit of a place are inverse to
+-- Laws of the interleaver: three exchanges reverse an address; there are 162 places, each below 162; the place of a coded bit and the coded bit of a place are inverse to
 -- each other.
 use mathlib.Core.Path.{_≡_, refl}
-use Prim.Native.Nat.{ℕ, _-_, _*_, _/_, _%_, _<_}
+use Prim.Native.Nat.{ℕ, _*_, _/_, _%_, _<_}
 use mathlib.Core.Bool.{Bool, true, _&&_}
 use mathlib.Core.List.{[], _∷_}
 use lib.Bits.{bitAnd, bitOr}
 use lib.Dec.{eqb, ltb}
 use lib.ListN.{length, getD, take}
 use borrow.Author.Tests.{eqb-true, ltb-true}
-use Rattle.basics.specs.Lists.{firstFailing}
+use Rattle.basics.specs.Lists.{indexIn}
 use Rattle.basics.proofs.Choice.{both-true}
 use Rattle.basics.proofs.ListLaws.{getD-tabulate}
 use Rattle.basics.proofs.Tables.{every-below, below-at}
@@ -54,11 +54,11 @@ undone-at f g tested i h =
     (ltb-true _ _ (tests .0), eqb-true _ _ (tests .1))
 
 places-undone : every-below (undone placeOf orderOf) 162 ≡ true
-unfolding undone placeOf orderOf places placesFrom reversed reversedIn firstFailing
+unfolding undone placeOf orderOf places placesFrom reversed reversedIn indexIn
 places-undone = refl
 
 order-undone : every-below (undone orderOf placeOf) 162 ≡ true
-unfolding undone placeOf orderOf places placesFrom reversed reversedIn firstFailing
+unfolding undone placeOf orderOf places placesFrom reversed reversedIn indexIn
 order-undone = refl
 
 pub placeOf-below : (index : ℕ) → index < 162 → placeOf index < 162

@@ -1,10 +1,10 @@
 -- The places of the coded bits in a frame (01, 'Frame': Interleaving).
 use Prim.Native.Nat.{ℕ, zero, suc, _+_, _*_, _/_, _%_, _^_}
-use mathlib.Core.Bool.{cond, not}
+use mathlib.Core.Bool.{cond}
 use mathlib.Core.List.{List, [], _∷_}
-use lib.Dec.{eqb, ltb}
+use lib.Dec.{ltb}
 use lib.ListN.{getD}
-use Rattle.basics.specs.Lists.{tabulate, firstFailing}
+use Rattle.basics.specs.Lists.{tabulate, indexIn}
 
 -- The n lowest bits of a number, reversed: the lowest goes to the top, and the others, reversed, below it.
 unfoldable pub reversedIn : ℕ → ℕ → ℕ
@@ -33,7 +33,7 @@ placeOf index = getD places index 0
 -- Its inverse: the index of the coded bit that goes to a place. That each undoes the other is `orderOf-placeOf` and `placeOf-orderOf` of
 -- proofs/PlaceLaws.antt.
 unfoldable pub orderOf : ℕ → ℕ
-orderOf place = firstFailing (λ index p. not (eqb p place)) 0 places
+orderOf place = indexIn place places
 
 -- The index of each place's coded bit.
 unfoldable pub order : List ℕ

@@ -84,7 +84,7 @@ pub legal-whole : (callsign locator : List ℕ) → length callsign ≡ 6 → le
 legal-whole callsign locator six four h k =
     omega (arith, firstFailing-append legalAt 0 6 callsign locator (omega arith) h, none-fails legalAt 6 locator k)
 
-pub legal-message : (callsign locator : List ℕ) (power : ℕ) → rightLengths (length callsign) (length locator) ≡ true
+legal-message : (callsign locator : List ℕ) (power : ℕ) → rightLengths (length callsign) (length locator) ≡ true
     → 10 ≤ firstBad 0 (callsign ++ locator) → legalPower power ≡ true → Legal callsign locator power
 legal-message callsign locator power right good legal =
     let lengths = lengths-of-right callsign locator right in

@@ -1,26 +1,18 @@
--- Laws of the powers: a legal power and its index are inverse to each other, and none is above 60.
-use mathlib.Core.Path.{_≡_, refl, sym, ap}
+-- Laws of the powers: a legal power and its index are inverse to each other, and none is above 60; and what the last arm of a decision
+-- knows.
+use mathlib.Core.Path.{_≡_, refl, ap}
 use Prim.Native.Nat.{ℕ, suc, _≤_, _<_}
 use native.Mathlib.Omega.{arith}
 use mathlib.Core.Bool.{true}
 use mathlib.Core.List.{List, [], _∷_}
 use lib.Dec.{eqb, leb}
-use lib.ListN.{length, getD, List·getD-eq-default}
-use borrow.Author.Tests.{lt-ltb, ltb-true, leb-true, eqb-true, eq-eqb, ne-eqb}
-use Rattle.basics.proofs.Choice.{equal-or-not, below-or-not}
+use lib.ListN.{length, List·getD-eq-default}
+use borrow.Author.Tests.{lt-ltb, ltb-true, leb-true, eqb-true, ne-eqb}
+use Rattle.basics.specs.Lists.{indexIn}
+use Rattle.basics.proofs.Choice.{below-or-not}
+use Rattle.basics.proofs.ListLaws.{getD-indexIn}
 use Rattle.basics.proofs.Tables.{every-at, below-at}
-use Rattle.power.specs.Powers.{powers, indexIn, powerIndex, powerAt, legalPower}
-
--- What stands at a number's index is the number.
-getD-indexIn : (n : ℕ) (xs : List ℕ) (d : ℕ) → indexIn n xs < length xs → getD xs (indexIn n xs) d ≡ n
-unfolding indexIn
-getD-indexIn n [] d h = absurd (omega arith)
-getD-indexIn n (x ∷ xs) d h =
-    equal-or-not n x
-    (λ e. rw (eq-eqb n x e) (sym e))
-    (λ other.
-    let t = ne-eqb n x other in
-    rw t (getD-indexIn n xs d (omega (arith, rw t at h))))
+use Rattle.power.specs.Powers.{powers, powerIndex, powerAt, legalPower}
 
 pub powerAt-powerIndex : (power : ℕ) → powerIndex power < 19 → powerAt (powerIndex power) ≡ power
 unfolding powerIndex powerAt powers

@@ -1,18 +1,14 @@
 -- The 19 legal powers and their indexes (01, 'Triple').
-use Prim.Native.Nat.{ℕ, suc}
-use mathlib.Core.Bool.{Bool, cond}
+use Prim.Native.Nat.{ℕ}
+use mathlib.Core.Bool.{Bool}
 use mathlib.Core.List.{List, [], _∷_}
-use lib.Dec.{eqb, ltb}
+use lib.Dec.{ltb}
 use lib.ListN.{length, getD}
+use Rattle.basics.specs.Lists.{indexIn}
 
 -- "Power is one of 19: 0 3 7 10 13 17 20 23 27 30 33 37 40 43 47 50 53 57 60, with index 0 to 18 in that order."
 unfoldable pub powers : List ℕ
 powers = 0 ∷ 3 ∷ 7 ∷ 10 ∷ 13 ∷ 17 ∷ 20 ∷ 23 ∷ 27 ∷ 30 ∷ 33 ∷ 37 ∷ 40 ∷ 43 ∷ 47 ∷ 50 ∷ 53 ∷ 57 ∷ 60 ∷ []
-
--- The index of a number in a list; the list's length where it isn't there.
-unfoldable pub indexIn : ℕ → List ℕ → ℕ
-indexIn n [] = 0
-indexIn n (x ∷ xs) = cond (eqb n x) 0 (suc (indexIn n xs))
 
 -- The index of a power; 19 where it is no legal one.
 unfoldable pub powerIndex : ℕ → ℕ

@@ -1,5 +1,5 @@
--- The laws of mixed-radix numerals: the bound, digits in range, the two inverses, injectivity, and a number that is
--- written in one list of radices and read in another.
+-- The laws of mixed-radix numerals: the bound, digits in range, the two inverses, injectivity, a number that is
+-- written in one list of radices and read in another, and what is left above the highest digit.
 use mathlib.Core.Path.{_≡_, refl, sym, ap, _∙_, subst}
 use Prim.Native.Nat.{ℕ, suc, _+_, _*_, _/_, _%_, _<_}
 use native.Mathlib.Nat.{add-assoc, add-mul, mul-assoc, one-mul, zero-mul, zero-add, mul-pos, mod-lt, mod-eq-of-lt, mul-add-div-right, mul-add-mod-self-right, div-lt-iff-lt-mul, div-eq-of-lt}
@@ -68,7 +68,7 @@ digits-in-range [] n h = tt
 digits-in-range (r ∷ rs) n h = (mod-lt (n / count rs) (h .0), digits-in-range rs n (h .1))
 
 -- Only what is below the highest digit's end shows in the digits.
-digitsOf-front : (rs : List ℕ) (k n : ℕ) → Positive rs → digitsOf rs (k * count rs + n) ≡ digitsOf rs n
+pub digitsOf-front : (rs : List ℕ) (k n : ℕ) → Positive rs → digitsOf rs (k * count rs + n) ≡ digitsOf rs n
 unfolding Positive count digitsOf
 digitsOf-front [] k n h = refl
 digitsOf-front (r ∷ rs) k n h =

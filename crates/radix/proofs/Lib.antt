@@ -1,3 +1,3 @@
--- `Laws`: packing and unpacking are inverse, and what follows. `Steps`: one turn of the loops, over lists.
+-- `Laws`: packing and unpacking are inverse, and what follows. `Turns`: one turn of the loops, over lists.
 pub mod Laws
-mod Steps
+mod Turns

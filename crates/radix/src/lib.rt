@@ -1,7 +1,8 @@
 // Mixed-radix numerals: a list of digits, highest first, each below the radix at its own place.
 //
-// Every packing of the card is such a numeral, so that packing and unpacking are proved to be
-// inverse once, here (proofs/Laws.antt), and every layer cites it.
+// The digits of a callsign, a locator and of telemetry's two numbers and the bits of a word are such
+// numerals, so that packing and unpacking are proved to be inverse once, here (proofs/Laws.antt), and
+// every layer cites it.
 ghost use mathlib.Core.Path.{_≡_};
 ghost use Prim.Native.Nat.{_≤_, _/_, _^_};
 ghost use lib.ListN.{length};

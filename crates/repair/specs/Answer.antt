@@ -16,7 +16,7 @@ use Rattle.repair.specs.declared.Repaired.{Repaired}
 
 -- "limit above 12, or budget 0 or above 65,536": place 0 or 1, and 2 where neither is so.
 unfoldable pub firstBadBound : ℕ → ℕ → ℕ
-firstBadBound limit budget = firstFalse 0 (leb limit 12 ∷ between 1 65_536 budget ∷ [])
+firstBadBound limit budget = firstFalse (leb limit 12 ∷ between 1 65_536 budget ∷ [])
 
 -- "The answer holds the word, its disagreements, the live count, and the number of the 162 symbols whose sync bit (symbol modulo 2) is
 -- wrong."

@@ -1,17 +1,14 @@
 -- Laws of the ranges: what each range says, and that nothing is out of its range exactly where all are in it.
 use mathlib.Core.Path.{_≡_}
-use Prim.Native.Nat.{ℕ, _≤_}
+use Prim.Native.Nat.{_≤_}
 use native.Mathlib.Omega.{arith}
-use mathlib.Core.Bool.{Bool, true}
+use mathlib.Core.Bool.{true}
+use Rattle.basics.specs.Lists.{isTrue}
 use Rattle.basics.proofs.Choice.{between-true, between-range}
 use Rattle.basics.proofs.ListLaws.{AllPass, firstFailing-end, all-pass, none-fails}
 use Rattle.u4b.specs.Channel.{isFirstCharacter, isThirdCharacter}
 use Rattle.telemetry.specs.Ranges.{temperatureInRange, inRanges, firstOutOfRange}
 use Rattle.telemetry.specs.declared.Measured.{Measured}
-
--- A test of `inRanges`, as a test of an element of a list.
-abbrev pub isTrue : ℕ → Bool → Bool
-isTrue place test = test
 
 -- What is measured is in its ranges.
 pub record InRange (m : Measured) : Type 0 where

@@ -34,4 +34,4 @@ inRanges m =
 
 -- The first place that is out of its range; 9 where none is.
 unfoldable pub firstOutOfRange : Measured → ℕ
-firstOutOfRange m = firstFalse 0 (inRanges m)
+firstOutOfRange m = firstFalse (inRanges m)

@@ -33,7 +33,7 @@ fn temperature_in_range(tenths: i32) -> bool
 
 // The index of the first test that is false; past the last where there is none.
 fn first_false(tests: &[bool]) -> usize
-    ensures { λ r. ⌜ r ≡ firstFalse 0 (now (tests .entry)) ⌝ }
+    ensures { λ r. ⌜ r ≡ firstFalse (now (tests .entry)) ⌝ }
 {
     let mut i = 0;
     while i < tests.len() {

@@ -1,10 +1,10 @@
 -- 01's example agrees with the definitions: antt computes the whole output for its three lines.
 use mathlib.Core.Path.{_≡_, refl}
 use Rattle.basics.specs.Ascii.{bytes}
-use Rattle.basics.specs.Lists.{firstFailing, sameList}
+use Rattle.basics.specs.Lists.{firstFailing, indexIn, sameList}
 use Rattle.basics.proofs.ListLaws.{sameList-equal}
 use Rattle.radix.specs.Numeral.{count, numberOf, numberFrom, digitsOf}
-use Rattle.power.specs.Powers.{powers, indexIn, powerIndex, legalPower}
+use Rattle.power.specs.Powers.{powers, powerIndex, legalPower}
 use Rattle.message.specs.Character.{value, callsignSets, locatorSets, setAt, legalAt, digitAt, overPlaces, digitsFrom}
 use Rattle.message.specs.Answer.{rightLengths, checked}
 use Rattle.u4b.specs.Channel.{isFirstCharacter}

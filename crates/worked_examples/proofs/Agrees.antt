@@ -3,12 +3,12 @@ use mathlib.Core.Path.{_≡_, refl}
 use mathlib.Core.Bool.{Bool, true}
 use mathlib.Core.List.{List, [], _∷_}
 use Rattle.basics.specs.Ascii.{bytes}
-use Rattle.basics.specs.Lists.{firstFailing, sameList}
+use Rattle.basics.specs.Lists.{firstFailing, indexIn, sameList}
 use Rattle.basics.proofs.Choice.{both-true}
 use Rattle.basics.proofs.Tables.{every}
 use Rattle.basics.proofs.ListLaws.{sameList-equal}
 use Rattle.radix.specs.Numeral.{count, numberOf, numberFrom, digitsOf}
-use Rattle.power.specs.Powers.{powers, indexIn, powerIndex, powerAt, legalPower}
+use Rattle.power.specs.Powers.{powers, powerIndex, powerAt, legalPower}
 use Rattle.message.specs.Character.{value, character, callsignSets, locatorSets, setAt, legalAt, digitAt, characterAt, overPlaces, digitsFrom, charactersFrom}
 use Rattle.message.specs.Word.{callsignRadices, callsignNumber, locatorNumberFrom, locatorNumber, lowerNumber}
 use Rattle.message.specs.Answer.{rightLengths, checked, givenNumbers}

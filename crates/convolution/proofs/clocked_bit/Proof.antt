@@ -2,7 +2,7 @@
 -- Assumes nothing.
 use mathlib.Core.Path.{sym}
 use native.Mathlib.Omega.{arith}
-use Rattle.convolution.proofs.CodeLaws.{clocked-first, clocked-last}
+use Rattle.convolution.proofs.CodeLaws.{clocked-first, clocked-later}
 use borrow.Author.Needs.{needs}
 use Rattle.convolution.proofs.clocked_bit.Statement.{statement}
 use Rattle.convolution.proofs.clocked_bit.Tie as tie
@@ -24,7 +24,7 @@ returns c =
 returns-2 : tie.Need-returns-2
 returns-2 c =
     let a = c .before .args in
-    sym (clocked-last (a .word) (a .step) (omega arith) (omega arith))
+    sym (clocked-later (a .word) (a .step) (omega arith) (omega arith))
 
 pub clocked-bit-spec : {M : Type 1} → statement M
 clocked-bit-spec = tie.close (tie.spec sub-result shr-result cast-result returns returns-2)

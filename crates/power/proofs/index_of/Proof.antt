@@ -2,7 +2,8 @@
 -- index in the list.
 -- Assumes nothing.
 use mathlib.Core.Path.{sym, ap}
-use Rattle.power.specs.Powers.{powers, indexIn, powerIndex}
+use Rattle.basics.specs.Lists.{indexIn}
+use Rattle.power.specs.Powers.{powers, powerIndex}
 use Rattle.power.proofs.Laws.{indexIn-absent}
 use Rattle.power.proofs.index_of.Statement.{statement}
 use Rattle.power.proofs.index_of.Tie as tie

@@ -2,25 +2,25 @@
 -- gives the number of all the digits. The measure is the count of radices left.
 -- Assumes nothing.
 use mathlib.Core.Path.{_≡_, refl, sym, _∙_}
-use Prim.Native.Nat.{_-_, _≤_}
+use Prim.Native.Nat.{_-_}
 use native.Mathlib.Omega.{arith}
 use lib.ListN.{length, drop}
 use Rattle.radix.specs.Numeral.{numberFrom, numberOf}
 use Rattle.radix.proofs.Laws.{digits-length}
-use Rattle.radix.proofs.Steps.{pack-turn, pack-fits, pack-ends}
+use Rattle.radix.proofs.Turns.{pack-turn, pack-fits, pack-ends}
 use Rattle.radix.proofs.pack.Statement.{statement}
 use Rattle.radix.proofs.pack.Tie as tie
 
 abbrev Inv-loop : tie.InvT-loop
 Inv-loop radices digits number₀ i₀ number i =
-    (i ≤ length radices) × (numberFrom number (drop i radices) (drop i digits) ≡ numberOf radices digits)
+    numberFrom number (drop i radices) (drop i digits) ≡ numberOf radices digits
 
 abbrev μ-loop : tie.MeasureT-loop
 μ-loop radices digits number₀ i₀ number i = length radices - i
 
 loop-holds : tie.Need-loop-holds Inv-loop μ-loop
 unfolding numberOf
-loop-holds c = (omega arith, refl)
+loop-holds c = refl
 
 mul-number : tie.Need-mul-number Inv-loop μ-loop
 mul-number c = omega arith
@@ -32,7 +32,7 @@ mul-number-2 : tie.Need-mul-number-2 Inv-loop μ-loop
 mul-number-2 c =
     let l = c .before .before in
     let a = l .before in
-    let fits = pack-fits (a .args .radices .now) (a .args .digits .now) (a .pre .0) (l .loop .number) (l .loop .i) (omega arith) (l .loop .inv .1) (a .pre .1) in
+    let fits = pack-fits (a .args .radices .now) (a .args .digits .now) (a .pre .0) (l .loop .number) (l .loop .i) (omega arith) (l .loop .inv) (a .pre .1) in
     omega arith
 
 mul-number-3 : tie.Need-mul-number-3 Inv-loop μ-loop
@@ -47,7 +47,7 @@ add-number : tie.Need-add-number Inv-loop μ-loop
 add-number c =
     let l = c .before .before .before in
     let a = l .before in
-    let fits = pack-fits (a .args .radices .now) (a .args .digits .now) (a .pre .0) (l .loop .number) (l .loop .i) (omega arith) (l .loop .inv .1) (a .pre .1) in
+    let fits = pack-fits (a .args .radices .now) (a .args .digits .now) (a .pre .0) (l .loop .number) (l .loop .i) (omega arith) (l .loop .inv) (a .pre .1) in
     omega arith
 
 add-i : tie.Need-add-i Inv-loop μ-loop
@@ -60,12 +60,12 @@ loop-again : tie.Need-loop-again Inv-loop μ-loop
 loop-again c =
     let l = c .before .before .before in
     let a = l .before in
-    (omega arith, sym (pack-turn (a .args .radices .now) (a .args .digits .now) (a .pre .0) (l .loop .number) (l .loop .i) (omega arith)) ∙ l .loop .inv .1)
+    sym (pack-turn (a .args .radices .now) (a .args .digits .now) (a .pre .0) (l .loop .number) (l .loop .i) (omega arith)) ∙ l .loop .inv
 
 returns : tie.Need-returns Inv-loop μ-loop
 returns c =
     let l = c .before in
-    sym (pack-ends (l .loop .number) (l .loop .i) (l .before .args .radices .now) (l .before .args .digits .now) (omega arith)) ∙ l .loop .inv .1
+    sym (pack-ends (l .loop .number) (l .loop .i) (l .before .args .radices .now) (l .before .args .digits .now) (omega arith)) ∙ l .loop .inv
 
 pub pack-spec : {M : Type 1} → statement M
 pack-spec =

@@ -4,7 +4,7 @@
 use mathlib.Core.Path.{_≡_}
 use Prim.Native.Nat.{_-_}
 use native.Mathlib.Omega.{arith}
-use Rattle.radix.proofs.Steps.{Unpacking, positive-at, unpack-starts, unpack-turn}
+use Rattle.radix.proofs.Turns.{Unpacking, positive-at, unpack-starts, unpack-turn}
 use Rattle.radix.proofs.unpack.Statement.{statement}
 use Rattle.radix.proofs.unpack.Tie as tie
 

@@ -16,10 +16,6 @@ use Rattle.telemetry.proofs.RoundTripLaws.{write-refused, write-done}
 use borrow.Author.Needs.{needs}
 use Rattle.telemetry.proofs.write.Statement.{statement}
 use Rattle.telemetry.proofs.write.Tie as tie
-use Rattle.message.proofs.right_lengths.Reads as right-lengths-reads
-use Rattle.telemetry.proofs.codes.numbers_from.Reads as numbers-from-reads
-use Rattle.telemetry.proofs.range.first_out_of_range.Reads as first-out-of-range-reads
-use Rattle.u4b.proofs.write.Reads as write-reads
 
 -- Past the first test both lengths are right.
 right : (c : tie.Else1) → let a = c .before .before .before .before .args in rightLengths (length (a .callsign .now)) (length (a .locator .now)) ≡ true

@@ -12,10 +12,6 @@ use Rattle.u4b.specs.Answer.{numbersOf}
 use Rattle.u4b.proofs.AnswerLaws.{carried-refused, carried-not-telemetry, carried-numbers, all-telemetry}
 use Rattle.u4b.proofs.read.Statement.{statement}
 use Rattle.u4b.proofs.read.Tie as tie
-use Rattle.message.proofs.pack.Reads as pack-reads
-use Rattle.u4b.proofs.callsign.first_not_telemetry.Reads as first-not-telemetry-reads
-use Rattle.u4b.proofs.callsign.upper_of.Reads as upper-of-reads
-use Rattle.u4b.proofs.locator.lower_of.Reads as lower-of-reads
 
 -- Past the first test the message is legal.
 is-checked : (c : tie.After-enum-told) → let a = c .before .before .before .before .before .args in

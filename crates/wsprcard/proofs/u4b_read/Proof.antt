@@ -4,8 +4,6 @@ use Rattle.wsprcard.proofs.TelemetryResults.{read-results}
 use borrow.Author.Needs.{needs}
 use Rattle.wsprcard.proofs.u4b_read.Statement.{statement}
 use Rattle.wsprcard.proofs.u4b_read.Tie as tie
-use Rattle.telemetry.proofs.read.Reads as read-reads
-use Rattle.wsprcard.proofs.reading_result.Reads as reading-result-reads
 
 read-requires : tie.Need-read-requires
 read-requires c κs = search needs

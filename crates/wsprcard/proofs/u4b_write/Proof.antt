@@ -5,8 +5,6 @@ use Rattle.wsprcard.proofs.TelemetryResults.{write-results}
 use borrow.Author.Needs.{needs}
 use Rattle.wsprcard.proofs.u4b_write.Statement.{statement}
 use Rattle.wsprcard.proofs.u4b_write.Tie as tie
-use Rattle.telemetry.proofs.write.Reads as write-reads
-use Rattle.wsprcard.proofs.message_result.Reads as message-result-reads
 
 write-requires : tie.Need-write-requires
 write-requires c κs = search needs

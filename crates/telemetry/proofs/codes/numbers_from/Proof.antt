@@ -4,8 +4,6 @@ use borrow.Author.Needs.{needs}
 use Rattle.telemetry.specs.Numbers.{numbersFrom}
 use Rattle.telemetry.proofs.codes.numbers_from.Statement.{statement}
 use Rattle.telemetry.proofs.codes.numbers_from.Tie as tie
-use Rattle.telemetry.proofs.codes.position_number.Reads as position-number-reads
-use Rattle.telemetry.proofs.codes.sensor_number.Reads as sensor-number-reads
 
 position-number-requires : tie.Need-position-number-requires
 position-number-requires c κs = search needs

@@ -8,7 +8,6 @@ use Rattle.telemetry.proofs.RangeLaws.{in-range}
 use Rattle.telemetry.proofs.NumberLaws.{position-digits, position-count}
 use Rattle.telemetry.proofs.codes.position_number.Statement.{statement}
 use Rattle.telemetry.proofs.codes.position_number.Tie as tie
-use Rattle.radix.proofs.pack.Reads as pack-reads
 
 sub-t4 : tie.Need-sub-t4
 sub-t4 c = in-range (c .before .args .m) (omega (arith, c .before .pre)) .grid5 .0

@@ -7,7 +7,6 @@ use Rattle.telemetry.specs.declared.Decoded.{Decoded}
 use Rattle.telemetry.proofs.AnswerLaws.{numbers-extended, numbers-position, numbers-sensors, numbers-reading}
 use Rattle.telemetry.proofs.codes.read_numbers.Statement.{statement}
 use Rattle.telemetry.proofs.codes.read_numbers.Tie as tie
-use Rattle.telemetry.proofs.codes.reading_of.Reads as reading-of-reads
 
 returns : tie.Need-returns
 returns c = sym (numbers-extended (c .before .before .args .numbers) (c .if1 .taken))

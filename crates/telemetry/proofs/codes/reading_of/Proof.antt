@@ -19,9 +19,6 @@ use Rattle.telemetry.proofs.CodeLaws.{degrees-fits}
 use Rattle.telemetry.proofs.NumberLaws.{position-positive, sensor-positive}
 use Rattle.telemetry.proofs.codes.reading_of.Statement.{statement}
 use Rattle.telemetry.proofs.codes.reading_of.Tie as tie
-use Rattle.radix.proofs.unpack.Reads as unpack-reads
-use Rattle.telemetry.proofs.codes.degrees_of.Reads as degrees-of-reads
-use Rattle.telemetry.proofs.codes.millivolts_of.Reads as millivolts-of-reads
 
 -- Digits below the radices.
 record PositionDigits (p : List ℕ) : Type 0 where

@@ -12,9 +12,6 @@ use Rattle.telemetry.specs.Numbers.{sensorRadices, sensorDigits, sensorN
 use Rattle.telemetry.proofs.NumberLaws.{sensor-digits, sensor-count}
 use Rattle.telemetry.proofs.codes.sensor_number.Statement.{statement}
 use Rattle.telemetry.proofs.codes.sensor_number.Tie as tie
-use Rattle.radix.proofs.pack.Reads as pack-reads
-use Rattle.telemetry.proofs.codes.temperature_code.Reads as temperature-code-reads
-use Rattle.telemetry.proofs.codes.voltage_code.Reads as voltage-code-reads
 
 -- The temperature is read from the struct as the number that it holds.
 as-held : (c : tie.After-struct-told) → let t = c .before .args .m .temperature in toZ w32 (ofZ w32 t) ≡ t

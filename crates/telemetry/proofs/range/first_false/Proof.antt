@@ -6,8 +6,8 @@ use native.Mathlib.Omega.{arith}
 use mathlib.Core.Bool.{false}
 use lib.ListN.{length}
 use borrow.Author.Tests.{not-true, not-false}
+use Rattle.basics.specs.Lists.{isTrue}
 use Rattle.basics.proofs.ListLaws.{Searching, search-failed, search-passed, search-over}
-use Rattle.telemetry.proofs.RangeLaws.{isTrue}
 use Rattle.telemetry.proofs.range.first_false.Statement.{statement}
 use Rattle.telemetry.proofs.range.first_false.Tie as tie
 

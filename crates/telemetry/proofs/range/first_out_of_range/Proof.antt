@@ -10,12 +10,6 @@ use Rattle.telemetry.specs.Ranges.{temperatureInRange, inRanges, firstOu
 use Rattle.telemetry.proofs.RangeLaws.{firstOutOfRange-end}
 use Rattle.telemetry.proofs.range.first_out_of_range.Statement.{statement}
 use Rattle.telemetry.proofs.range.first_out_of_range.Tie as tie
-use Rattle.telemetry.proofs.range.first_false.Reads as first-false-reads
-use Rattle.telemetry.proofs.range.is_between.Reads as is-between-reads
-use Rattle.telemetry.proofs.range.is_sub_square.Reads as is-sub-square-reads
-use Rattle.telemetry.proofs.range.temperature_in_range.Reads as temperature-in-range-reads
-use Rattle.u4b.proofs.channel.is_first_character.Reads as is-first-character-reads
-use Rattle.u4b.proofs.channel.is_third_character.Reads as is-third-character-reads
 
 -- What `first_false` returns is the first place out of range.
 its-place : (c : tie.After-first-false)

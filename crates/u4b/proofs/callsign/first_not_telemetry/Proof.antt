@@ -10,7 +10,6 @@ use Rattle.basics.proofs.ListLaws.{Searching, search-failed, search-passed, sea
 use Rattle.u4b.specs.Characters.{telemetryAt, firstNotTelemetry}
 use Rattle.u4b.proofs.callsign.first_not_telemetry.Statement.{statement}
 use Rattle.u4b.proofs.callsign.first_not_telemetry.Tie as tie
-use Rattle.u4b.proofs.callsign.is_telemetry_at.Reads as is-telemetry-at-reads
 
 abbrev Inv-loop : tie.InvT-loop
 Inv-loop callsign i₀ i = Searching telemetryAt callsign i

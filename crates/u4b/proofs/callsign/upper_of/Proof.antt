@@ -13,8 +13,6 @@ use Rattle.u4b.specs.Characters.{upperRadices, upperOf}
 use Rattle.u4b.proofs.CallsignLaws.{fourDigits, upper-count, upper-digits-in}
 use Rattle.u4b.proofs.callsign.upper_of.Statement.{statement}
 use Rattle.u4b.proofs.callsign.upper_of.Tie as tie
-use Rattle.message.proofs.character.read_digits.Reads as read-digits-reads
-use Rattle.radix.proofs.pack.Reads as pack-reads
 
 slice-aggregate-read-digits : tie.Need-slice-aggregate-read-digits
 slice-aggregate-read-digits c = search needs

@@ -12,9 +12,6 @@ use Rattle.u4b.specs.Characters.{upperRadices}
 use Rattle.u4b.proofs.CallsignLaws.{sixDigits, upper-positive, six-digits-at, callsignWith-characters}
 use Rattle.u4b.proofs.callsign.write_callsign.Statement.{statement}
 use Rattle.u4b.proofs.callsign.write_callsign.Tie as tie
-use Rattle.message.proofs.character.digit_at.Reads as digit-at-reads
-use Rattle.message.proofs.character.write_characters.Reads as write-characters-reads
-use Rattle.radix.proofs.unpack.Reads as unpack-reads
 
 its-digits : (c : tie.After-unpack) → c .unpack .last .1 .1 .0 ≡ digitsOf upperRadices (c .before .before .before .before .args .upper)
 unfolding upperRadices

@@ -8,11 +8,8 @@ use Rattle.u4b.specs.Characters.{lowerRadices, lowerOf}
 use Rattle.u4b.proofs.LocatorLaws.{lower-count, lower-digits-in}
 use Rattle.u4b.proofs.locator.lower_of.Statement.{statement}
 use Rattle.u4b.proofs.locator.lower_of.Tie as tie
-use Rattle.message.proofs.character.read_digits.Reads as read-digits-reads
-use Rattle.power.proofs.index_of.Reads as index-of-reads
 use Rattle.basics.proofs.ListLaws.{all-pass}
 use Rattle.message.specs.Character.{legalAt}
-use Rattle.radix.proofs.pack.Reads as pack-reads
 
 slice-aggregate-read-digits : tie.Need-slice-aggregate-read-digits
 slice-aggregate-read-digits c = search needs

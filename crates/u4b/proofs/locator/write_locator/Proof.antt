@@ -14,9 +14,6 @@ use Rattle.u4b.specs.Characters.{lowerRadices, locatorWith, powerWith}
 use Rattle.u4b.proofs.LocatorLaws.{fourDigits, lower-positive, four-digits-at, index-below}
 use Rattle.u4b.proofs.locator.write_locator.Statement.{statement}
 use Rattle.u4b.proofs.locator.write_locator.Tie as tie
-use Rattle.message.proofs.character.write_characters.Reads as write-characters-reads
-use Rattle.power.proofs.power_at.Reads as power-at-reads
-use Rattle.radix.proofs.unpack.Reads as unpack-reads
 
 its-digits : (c : tie.After-unpack) → c .unpack .last .1 .1 .0 ≡ digitsOf lowerRadices (c .before .before .before .before .args .lower)
 unfolding lowerRadices
