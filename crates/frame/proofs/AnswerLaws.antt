@@ -21,10 +21,9 @@ use Rattle.convolution.specs.Code.{codedBits}
 use Rattle.convolution.specs.Decoding.{decodedWord}
 use Rattle.convolution.proofs.DecodingLaws.{decodedWord-below}
 use Rattle.frame.specs.Symbols.{frameOf, receivedBits}
-use Rattle.frame.specs.Answer.{wordWritten, writtenAs, messageWritten, frameAfter, frameAfterWord, frameAfterMessage, firstLarge, firstWrongSync, wordOfData, wordRead, messageFrom, messageRead, writtenRefusal, refusalOf, readNumbers}
+use Rattle.frame.specs.Answer.{wordWritten, writtenAs, messageWritten, frameAfter, frameAfterWord, frameAfterMessage, firstLarge, firstWrongSync, wordOfData, wordRead, messageFrom, messageRead, writtenRefusal, refusalOf}
 use Rattle.frame.specs.RoundTrip.{RightForm}
 use Rattle.frame.specs.declared.Written.{Written}
-use Rattle.frame.specs.declared.Read.{Read}
 use Rattle.frame.proofs.SymbolLaws.{received-frameOf, decoded-frameOf, frame-right-form, frame-by-data, form-of-tests, none-large, none-wrong}
 
 -- ---- The cases of writing from a word
@@ -99,21 +98,18 @@ module _ (callsign locator : List ℕ) (power : ℕ) (frame : List ℕ) where
 
 -- ---- The cases of strict reading to the word
 
-refused-not-word : (f : Refusal) (word : ℕ) → Read.Refused f ≡ Read.Word word → ⊥
-refused-not-word f word e = let z : _≡_ {A = ℕ} 0 1 = cc in omega arith
-
 module _ (frame : List ℕ) where
-  pub read-length : (length frame ≡ 162 → ⊥) → wordRead frame ≡ Read.Refused (refusal wrongLength 0)
+  pub read-length : (length frame ≡ 162 → ⊥) → wordRead frame ≡ Packed.Refused (refusal wrongLength 0)
   unfolding wordRead
   read-length other = rw (ne-eqb _ _ other)
 
   module _ (right : length frame ≡ 162) where
-    pub read-large : (large : ℕ) → large ≡ firstLarge frame → large < 162 → wordRead frame ≡ Read.Refused (refusal symbolTooLarge large)
+    pub read-large : (large : ℕ) → large ≡ firstLarge frame → large < 162 → wordRead frame ≡ Packed.Refused (refusal symbolTooLarge large)
     unfolding wordRead
     read-large large e h = rw (eq-eqb _ _ right, ← e, lt-ltb _ _ h)
 
     module _ (small : 162 ≤ firstLarge frame) where
-      pub read-sync : (wrong : ℕ) → wrong ≡ firstWrongSync frame → wrong < 162 → wordRead frame ≡ Read.Refused (refusal wrongSync wrong)
+      pub read-sync : (wrong : ℕ) → wrong ≡ firstWrongSync frame → wrong < 162 → wordRead frame ≡ Packed.Refused (refusal wrongSync wrong)
       unfolding wordRead
       read-sync wrong e h = rw (eq-eqb _ _ right, le-ltb _ _ small, ← e, lt-ltb _ _ h)
 
@@ -123,11 +119,11 @@ module _ (frame : List ℕ) where
 
   -- Of a frame of the right form the word that its data bits determine is encoded anew, and compared.
   module _ (form : RightForm frame) (word : ℕ) (e : word ≡ decodedWord (receivedBits frame)) where
-    pub data-word : codedBits word ≡ receivedBits frame → wordOfData frame ≡ Read.Word word
+    pub data-word : codedBits word ≡ receivedBits frame → wordOfData frame ≡ Packed.Word word
     unfolding wordOfData
     data-word same = rw (← e, frame-by-data word frame form same, sameList-itself frame)
 
-    pub data-none : (codedBits word ≡ receivedBits frame → ⊥) → wordOfData frame ≡ Read.Refused (refusal noWord 0)
+    pub data-none : (codedBits word ≡ receivedBits frame → ⊥) → wordOfData frame ≡ Packed.Refused (refusal noWord 0)
     unfolding wordOfData
     data-none other =
         rw (← e)
@@ -140,24 +136,24 @@ module _ (frame : List ℕ) where
   read-form form =
       read-data (form .right-symbols .right-length) (omega (arith, none-large frame (form .right-symbols))) (omega (arith, none-wrong frame form))
 
-  pub word-of-read : (word : ℕ) → wordRead frame ≡ Read.Word word → (word < 2 ^ 50) × (frameOf word ≡ frame)
+  pub word-of-read : (word : ℕ) → wordRead frame ≡ Packed.Word word → (word < 2 ^ 50) × (frameOf word ≡ frame)
   unfolding wordRead wordOfData
   word-of-read word e =
-      let lengths = cond-passed (not (eqb (length frame) 162)) e (refused-not-word _ word) in
-      let large = cond-passed (ltb (firstLarge frame) 162) (lengths .1) (refused-not-word _ word) in
-      let wrong = cond-passed (ltb (firstWrongSync frame) 162) (large .1) (refused-not-word _ word) in
+      let lengths = cond-passed (not (eqb (length frame) 162)) e (refused-no-word _ word) in
+      let large = cond-passed (ltb (firstLarge frame) 162) (lengths .1) (refused-no-word _ word) in
+      let wrong = cond-passed (ltb (firstWrongSync frame) 162) (large .1) (refused-no-word _ word) in
       let its-word = decodedWord (receivedBits frame) in
-      let same = cond-held (sameList (frameOf its-word) frame) (wrong .1) (refused-not-word _ word) in
+      let same = cond-held (sameList (frameOf its-word) frame) (wrong .1) (refused-no-word _ word) in
       let is : its-word ≡ word = cc in
       (rw (← is) (decodedWord-below (receivedBits frame)), rw (← is) (sameList-equal (frameOf its-word) frame (same .0)))
 
 -- Refusals with different numbers differ.
-other-number : (m n p q : ℕ) → (m ≡ n → ⊥) → Read.Refused (refusal m p) ≡ Read.Refused (refusal n q) → ⊥
+other-number : (m n p q : ℕ) → (m ≡ n → ⊥) → Packed.Refused (refusal m p) ≡ Packed.Refused (refusal n q) → ⊥
 unfolding refusalOf
-other-number m n p q other e = other (ap (λ (a : Read). refusalOf a .number) e)
+other-number m n p q other e = other (ap (λ (a : Packed). refusalOf a .number) e)
 
 -- A frame that is refused 9 has the right form.
-pub form-of-none : (frame : List ℕ) → wordRead frame ≡ Read.Refused (refusal noWord 0) → RightForm frame
+pub form-of-none : (frame : List ℕ) → wordRead frame ≡ Packed.Refused (refusal noWord 0) → RightForm frame
 unfolding wordRead
 form-of-none frame e =
     let lengths = cond-passed (not (eqb (length frame) 162)) e (other-number wrongLength noWord 0 0 (λ z. omega arith)) in
@@ -166,7 +162,7 @@ form-of-none frame e =
     form-of-tests frame (eqb-true _ _ (not-false _ (lengths .0))) (ltb-false _ _ (large .0)) (ltb-false _ _ (wrong .0))
 
 -- A word's frame reads as the word.
-pub read-frameOf : (word : ℕ) → word < 2 ^ 50 → wordRead (frameOf word) ≡ Read.Word word
+pub read-frameOf : (word : ℕ) → word < 2 ^ 50 → wordRead (frameOf word) ≡ Packed.Word word
 read-frameOf word h =
     read-form (frameOf word) (frame-right-form word)
     ∙ data-word (frameOf word) (frame-right-form word) word (sym (decoded-frameOf word h)) (sym (received-frameOf word))
@@ -192,20 +188,20 @@ message-answered callsign locator power frame =
     go (Packed.Word w) numbered z = refl
     go (Packed.Refused f) numbered z = absurd (refused-no-word f _ (numbered z))
 
-pub read-answered : (frame : List ℕ) → readNumbers (wordRead frame) .number ≡ 0 → wordRead frame ≡ Read.Word (readNumbers (wordRead frame) .word)
-unfolding wordRead wordOfData readNumbers
+pub read-answered : (frame : List ℕ) → packedNumbers (wordRead frame) .number ≡ 0 → wordRead frame ≡ Packed.Word (packedNumbers (wordRead frame) .word)
+unfolding wordRead wordOfData packedNumbers
 read-answered frame =
-    let P : Read → Type 0 = λ a. readNumbers a .number ≡ 0 → a ≡ Read.Word (readNumbers a .word) in
+    let P : Packed → Type 0 = λ a. packedNumbers a .number ≡ 0 → a ≡ Packed.Word (packedNumbers a .word) in
     cond-both P (not (eqb (length frame) 162)) (λ z. absurd (omega arith))
     (cond-both P (ltb (firstLarge frame) 162) (λ z. absurd (omega arith))
     (cond-both P (ltb (firstWrongSync frame) 162) (λ z. absurd (omega arith))
     (cond-both P (sameList (frameOf (decodedWord (receivedBits frame))) frame) (λ z. refl) (λ z. absurd (omega arith)))))
 
 -- The refusal number 9 is that of one answer only.
-pub read-none : (frame : List ℕ) → readNumbers (wordRead frame) .number ≡ noWord → wordRead frame ≡ Read.Refused (refusal noWord 0)
-unfolding wordRead wordOfData readNumbers
+pub read-none : (frame : List ℕ) → packedNumbers (wordRead frame) .number ≡ noWord → wordRead frame ≡ Packed.Refused (refusal noWord 0)
+unfolding wordRead wordOfData packedNumbers
 read-none frame =
-    let P : Read → Type 0 = λ a. readNumbers a .number ≡ noWord → a ≡ Read.Refused (refusal noWord 0) in
+    let P : Packed → Type 0 = λ a. packedNumbers a .number ≡ noWord → a ≡ Packed.Refused (refusal noWord 0) in
     cond-both P (not (eqb (length frame) 162)) (λ z. absurd (omega arith))
     (cond-both P (ltb (firstLarge frame) 162) (λ z. absurd (omega arith))
     (cond-both P (ltb (firstWrongSync frame) 162) (λ z. absurd (omega arith))
@@ -213,11 +209,11 @@ read-none frame =
 
 pub message-read-answered : (frame callsign locator : List ℕ) → givenNumbers (messageRead frame callsign locator) .number ≡ 0
     → messageRead frame callsign locator ≡ Given.Power (givenNumbers (messageRead frame callsign locator) .power)
-unfolding messageRead messageFrom readNumbers givenNumbers
+unfolding messageRead messageFrom packedNumbers givenNumbers
 message-read-answered frame callsign locator = go (wordRead frame) (read-answered frame)
   where
-    go : (answer : Read) → (readNumbers answer .number ≡ 0 → answer ≡ Read.Word (readNumbers answer .word))
+    go : (answer : Packed) → (packedNumbers answer .number ≡ 0 → answer ≡ Packed.Word (packedNumbers answer .word))
         → givenNumbers (messageFrom answer callsign locator) .number ≡ 0
         → messageFrom answer callsign locator ≡ Given.Power (givenNumbers (messageFrom answer callsign locator) .power)
-    go (Read.Word w) numbered z = unpacked-answered callsign locator w z
-    go (Read.Refused f) numbered z = absurd (refused-not-word f _ (numbered z))
+    go (Packed.Word w) numbered z = unpacked-answered callsign locator w z
+    go (Packed.Refused f) numbered z = absurd (refused-no-word f _ (numbered z))

@@ -21,7 +21,6 @@ use Rattle.frame.specs.Symbols.{frameOf, receivedBits}
 use Rattle.frame.specs.Answer.{wordWritten, messageWritten, frameAfter, frameAfterWord, frameAfterMessage, wordOfData, wordRead, messageFrom, callsignFrom, locatorFrom, messageRead, callsignRead, locatorRead}
 use Rattle.frame.specs.RoundTrip.{WordReadsBack, WordWritesAs, WordWritesBack, NeverFromWord, ReadRefused, WordRefusedExactly, NoWordRefused, ReadsAsMessage, MessageReadsBack, MessageWritesAs, MessageWritesBack, NeverFromMessage, MessageRefusedExactly}
 use Rattle.frame.specs.declared.Written.{Written}
-use Rattle.frame.specs.declared.Read.{Read}
 use Rattle.frame.proofs.SymbolLaws.{length-frameOf, frameOf-injective}
 use Rattle.frame.proofs.AnswerLaws.{written-done, done-of-word, after-word-done, message-done, done-of-message, after-message-done, word-of-read, form-of-none, read-frameOf, read-form}
 
@@ -46,9 +45,9 @@ word-writes-as word frame h same before right =
 pub word-writes-back : (frame : List ℕ) → WordWritesBack (wordRead frame) frame
 word-writes-back frame = go (wordRead frame) refl
   where
-    go : (answer : Read) → wordRead frame ≡ answer → WordWritesBack answer frame
-    go (Read.Word w) e = let made = word-of-read frame w e in word-writes-as w frame (made .0) (made .1)
-    go (Read.Refused f) e = tt
+    go : (answer : Packed) → wordRead frame ≡ answer → WordWritesBack answer frame
+    go (Packed.Word w) e = let made = word-of-read frame w e in word-writes-as w frame (made .0) (made .1)
+    go (Packed.Refused f) e = tt
 
 -- A frame that some word has isn't refused.
 word-not-refused : (frame : List ℕ) (word : ℕ) → word < 2 ^ 50 → frameOf word ≡ frame → ReadRefused (wordRead frame) → ⊥
@@ -61,12 +60,12 @@ word-refused-exactly frame = (never, λ none. exact (wordRead frame) refl none)
     never refused before word done after =
         word-not-refused frame word (done-of-word before word done .1) (sym (after-word-done before word done) ∙ after) refused
 
-    exact : (answer : Read) → wordRead frame ≡ answer → NeverFromWord frame → ReadRefused answer
-    exact (Read.Word w) e none =
+    exact : (answer : Packed) → wordRead frame ≡ answer → NeverFromWord frame → ReadRefused answer
+    exact (Packed.Word w) e none =
         let made = word-of-read frame w e in
         let written = word-writes-as w frame (made .0) (made .1) (frameOf w) (length-frameOf w) in
         none (frameOf w) w (written .0) (written .1)
-    exact (Read.Refused f) e none = tt
+    exact (Packed.Refused f) e none = tt
 
 -- Refusal 9.
 pub no-word-refused : (frame : List ℕ) → NoWordRefused (wordRead frame) frame
@@ -117,10 +116,10 @@ power-of-read : (frame c l : List ℕ) (power : ℕ) → messageRead frame c l �
 unfolding messageRead callsignRead locatorRead messageFrom callsignFrom locatorFrom callsignAfter locatorAfter contentAfter unpacked
 power-of-read frame c l power = go (wordRead frame) refl
   where
-    go : (answer : Read) → wordRead frame ≡ answer → messageFrom answer c l ≡ Given.Power power
+    go : (answer : Packed) → wordRead frame ≡ answer → messageFrom answer c l ≡ Given.Power power
         → MessageWritesAs (callsignFrom answer c l) (locatorFrom answer c l) power frame
-    go (Read.Refused f) e read = absurd (refused-no-power f power read)
-    go (Read.Word w) e read =
+    go (Packed.Refused f) e read = absurd (refused-no-power f power read)
+    go (Packed.Word w) e read =
         let its-power = cond-passed (not (rightLengths (length c) (length l))) read (refused-no-power _ power) .1 in
         rw read (writes-as (callsignOf w) (locatorOf w) power w frame (pack-unpack w power its-power) (word-of-read frame w e .1))
 
@@ -179,11 +178,11 @@ module _ (callsign locator : List ℕ) (power : ℕ) (frame : List ℕ) where
   write-message-refused f e = write-message-promised (Written.Refused f) frame (sym e) (rw e)
 
 module _ (frame : List ℕ) where
-  abbrev pub ReadWordPromised : Read → Type 0
+  abbrev pub ReadWordPromised : Packed → Type 0
   ReadWordPromised answer =
       (answer ≡ wordRead frame) × (WordWritesBack answer frame × (WordRefusedExactly answer frame × NoWordRefused answer frame))
 
-  pub read-word-promised : (answer : Read) → wordRead frame ≡ answer → ReadWordPromised answer
+  pub read-word-promised : (answer : Packed) → wordRead frame ≡ answer → ReadWordPromised answer
   read-word-promised answer e =
       subst ReadWordPromised e (refl, (word-writes-back frame, (word-refused-exactly frame, no-word-refused frame)))
 
@@ -204,12 +203,12 @@ module _ (frame callsign locator : List ℕ) where
       (e, (e₂, (e₃, (back, exactly))))
 
   -- The first refusal is the one returned.
-  pub read-message-refused : (f : Refusal) → wordRead frame ≡ Read.Refused f → ReadMessagePromised (Given.Refused f) callsign locator
+  pub read-message-refused : (f : Refusal) → wordRead frame ≡ Packed.Refused f → ReadMessagePromised (Given.Refused f) callsign locator
   unfolding messageRead callsignRead locatorRead messageFrom callsignFrom locatorFrom
   read-message-refused f e = read-message-promised (Given.Refused f) callsign locator (rw e) (rw e) (rw e)
 
   -- A frame with a word is read as the word is.
-  pub read-message-word : (word : ℕ) (answer : Given) (its-callsign its-locator : List ℕ) → wordRead frame ≡ Read.Word word
+  pub read-message-word : (word : ℕ) (answer : Given) (its-callsign its-locator : List ℕ) → wordRead frame ≡ Packed.Word word
       → answer ≡ unpacked callsign locator word → its-callsign ≡ callsignAfter callsign locator word
       → its-locator ≡ locatorAfter callsign locator word → ReadMessagePromised answer its-callsign its-locator
   unfolding messageRead callsignRead locatorRead messageFrom callsignFrom locatorFrom

@@ -7,14 +7,13 @@ use lib.ListN.{length}
 use Rattle.basics.specs.Lists.{firstFailing, sameList}
 use Rattle.refusal.specs.Refusals.{refusal, wrongLength, wordTooLarge, symbolTooLarge, wrongSync, noWord}
 use Rattle.refusal.specs.declared.Refusal.{Refusal}
-use Rattle.message.specs.Answer.{packed, unpacked, callsignAfter, locatorAfter, WordNumbers, wordGiven, wordRefused}
+use Rattle.message.specs.Answer.{packed, unpacked, callsignAfter, locatorAfter}
 use Rattle.message.specs.Word.{wordOf}
 use Rattle.message.specs.declared.Packed.{Packed}
 use Rattle.message.specs.declared.Given.{Given}
 use Rattle.convolution.specs.Decoding.{decodedWord}
 use Rattle.frame.specs.Symbols.{synced, frameOf, receivedBits}
 use Rattle.frame.specs.declared.Written.{Written}
-use Rattle.frame.specs.declared.Read.{Read}
 
 -- ---- Writing: "frame writing 1, then 2, 3 or 4 by what it is given"
 
@@ -61,32 +60,32 @@ unfoldable pub firstWrongSync : List ℕ → ℕ
 firstWrongSync frame = firstFailing synced 0 frame
 
 -- "no 50-bit word has this frame": only one word may have it, the one that its data bits determine.
-unfoldable pub wordOfData : List ℕ → Read
+unfoldable pub wordOfData : List ℕ → Packed
 wordOfData frame =
     let word = decodedWord (receivedBits frame) in
-    cond (sameList (frameOf word) frame) (Read.Word word) (Read.Refused (refusal noWord 0))
+    cond (sameList (frameOf word) frame) (Packed.Word word) (Packed.Refused (refusal noWord 0))
 
-unfoldable pub wordRead : List ℕ → Read
+unfoldable pub wordRead : List ℕ → Packed
 wordRead frame =
-    cond (not (eqb (length frame) 162)) (Read.Refused (refusal wrongLength 0))
-    (cond (ltb (firstLarge frame) 162) (Read.Refused (refusal symbolTooLarge (firstLarge frame)))
-    (cond (ltb (firstWrongSync frame) 162) (Read.Refused (refusal wrongSync (firstWrongSync frame)))
+    cond (not (eqb (length frame) 162)) (Packed.Refused (refusal wrongLength 0))
+    (cond (ltb (firstLarge frame) 162) (Packed.Refused (refusal symbolTooLarge (firstLarge frame)))
+    (cond (ltb (firstWrongSync frame) 162) (Packed.Refused (refusal wrongSync (firstWrongSync frame)))
     (wordOfData frame)))
 
 -- ---- Strict reading to the message: "it goes on only if the frame gave a word, and the first refusal is the one returned"
 
 -- The answer, and what the lent callsign and locator then hold, given the answer to the word.
-unfoldable pub messageFrom : Read → List ℕ → List ℕ → Given
-messageFrom (Read.Word w) callsign locator = unpacked callsign locator w
-messageFrom (Read.Refused f) callsign locator = Given.Refused f
+unfoldable pub messageFrom : Packed → List ℕ → List ℕ → Given
+messageFrom (Packed.Word w) callsign locator = unpacked callsign locator w
+messageFrom (Packed.Refused f) callsign locator = Given.Refused f
 
-unfoldable pub callsignFrom : Read → List ℕ → List ℕ → List ℕ
-callsignFrom (Read.Word w) callsign locator = callsignAfter callsign locator w
-callsignFrom (Read.Refused f) callsign locator = callsign
+unfoldable pub callsignFrom : Packed → List ℕ → List ℕ → List ℕ
+callsignFrom (Packed.Word w) callsign locator = callsignAfter callsign locator w
+callsignFrom (Packed.Refused f) callsign locator = callsign
 
-unfoldable pub locatorFrom : Read → List ℕ → List ℕ → List ℕ
-locatorFrom (Read.Word w) callsign locator = locatorAfter callsign locator w
-locatorFrom (Read.Refused f) callsign locator = locator
+unfoldable pub locatorFrom : Packed → List ℕ → List ℕ → List ℕ
+locatorFrom (Packed.Word w) callsign locator = locatorAfter callsign locator w
+locatorFrom (Packed.Refused f) callsign locator = locator
 
 unfoldable pub messageRead : List ℕ → List ℕ → List ℕ → Given
 messageRead frame callsign locator = messageFrom (wordRead frame) callsign locator
@@ -103,10 +102,6 @@ unfoldable pub writtenRefusal : Written → Refusal
 writtenRefusal Written.Done = refusal 0 0
 writtenRefusal (Written.Refused f) = f
 
-unfoldable pub refusalOf : Read → Refusal
-refusalOf (Read.Word w) = refusal 0 0
-refusalOf (Read.Refused f) = f
-
-unfoldable pub readNumbers : Read → WordNumbers
-readNumbers (Read.Word w) = wordGiven w
-readNumbers (Read.Refused f) = wordRefused f
+unfoldable pub refusalOf : Packed → Refusal
+refusalOf (Packed.Word w) = refusal 0 0
+refusalOf (Packed.Refused f) = f

@@ -11,13 +11,13 @@ use Rattle.message.specs.declared.Given.{Given}
 use Rattle.frame.specs.Symbols.{syncAt, frameOf, RightSymbols}
 use Rattle.frame.specs.Answer.{wordWritten, messageWritten, frameAfterWord, frameAfterMessage, wordRead, messageRead, callsignRead, locatorRead}
 use Rattle.frame.specs.declared.Written.{Written}
-use Rattle.frame.specs.declared.Read.{Read}
+use Rattle.message.specs.declared.Packed.{Packed}
 
 -- ---- A word and its frame
 
 -- The frame reads as this word, and is no other's.
 pub record ReadsAsWord (frame : List ℕ) (word : ℕ) : Type 0 where
-  pub its-word : wordRead frame ≡ Read.Word word
+  pub its-word : wordRead frame ≡ Packed.Word word
   pub no-other : (other : ℕ) → other < 2 ^ 50 → frameOf other ≡ frame → other ≡ word
 
 -- What was written reads back.
@@ -31,21 +31,21 @@ WordWritesAs word frame =
     (before : List ℕ) → length before ≡ 162 → (wordWritten before word ≡ Written.Done) × (frameAfterWord before word ≡ frame)
 
 -- What was read writes back.
-abbrev pub WordWritesBack : Read → List ℕ → Type 0
-WordWritesBack (Read.Word w) frame = WordWritesAs w frame
-WordWritesBack (Read.Refused f) frame = Unit
+abbrev pub WordWritesBack : Packed → List ℕ → Type 0
+WordWritesBack (Packed.Word w) frame = WordWritesAs w frame
+WordWritesBack (Packed.Refused f) frame = Unit
 
 -- Writing from a word never makes this frame.
 abbrev pub NeverFromWord : List ℕ → Type 0
 NeverFromWord frame = (before : List ℕ) (word : ℕ) → wordWritten before word ≡ Written.Done → frameAfterWord before word ≡ frame → ⊥
 
 -- The answer is a refusal.
-abbrev pub ReadRefused : Read → Type 0
-ReadRefused (Read.Word w) = ⊥
-ReadRefused (Read.Refused f) = Unit
+abbrev pub ReadRefused : Packed → Type 0
+ReadRefused (Packed.Word w) = ⊥
+ReadRefused (Packed.Refused f) = Unit
 
 -- The answer is a refusal exactly where writing from a word never makes the frame.
-abbrev pub WordRefusedExactly : Read → List ℕ → Type 0
+abbrev pub WordRefusedExactly : Packed → List ℕ → Type 0
 WordRefusedExactly answer frame = ReadRefused answer ↔ NeverFromWord frame
 
 -- The frame has 162 symbols of 0 to 3 with the right sync bits.
@@ -58,8 +58,8 @@ abbrev pub NoWord : List ℕ → Type 0
 NoWord frame = (word : ℕ) → word < 2 ^ 50 → frameOf word ≡ frame → ⊥
 
 -- Refusal 9 is given exactly where the form is right, so that 1, 7 and 8 do not apply, and no word has the frame.
-abbrev pub NoWordRefused : Read → List ℕ → Type 0
-NoWordRefused answer frame = (answer ≡ Read.Refused (refusal noWord 0)) ↔ (RightForm frame × NoWord frame)
+abbrev pub NoWordRefused : Packed → List ℕ → Type 0
+NoWordRefused answer frame = (answer ≡ Packed.Refused (refusal noWord 0)) ↔ (RightForm frame × NoWord frame)
 
 -- ---- A message and its frame
 

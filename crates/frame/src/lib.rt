@@ -19,12 +19,6 @@ pub enum Written {
     Refused(Refusal),
 }
 
-// The answer of reading to the word.
-pub enum Read {
-    Word(u64),
-    Refused(Refusal),
-}
-
 // Writes the frame of a word.
 pub fn write_word(word: u64, frame: &mut [u8]) -> Written
     ensures answer { λ r. ⌜ r ≡ wordWritten (now (frame .entry)) word ⌝ }
@@ -69,28 +63,28 @@ pub fn write_message(callsign: &[u8], locator: &[u8], power: u32, frame: &mut [u
 }
 
 // The word of a frame.
-pub fn read_word(frame: &[u8]) -> Read
+pub fn read_word(frame: &[u8]) -> Packed
     ensures answer { λ r. ⌜ r ≡ wordRead (now (frame .entry)) ⌝ }
     ensures writes_back { λ r. ⌜ WordWritesBack r (now (frame .entry)) ⌝ }
     ensures refuses_exactly { λ r. ⌜ WordRefusedExactly r (now (frame .entry)) ⌝ }
     ensures no_word { λ r. ⌜ NoWordRefused r (now (frame .entry)) ⌝ }
 {
     if frame.len() != 162 {
-        return Read::Refused(Refusal {
+        return Packed::Refused(Refusal {
             number: WRONG_LENGTH,
             place: 0,
         });
     }
     let large = symbols::first_large(frame);
     if large < 162 {
-        return Read::Refused(Refusal {
+        return Packed::Refused(Refusal {
             number: SYMBOL_TOO_LARGE,
             place: large as u32,
         });
     }
     let wrong = symbols::first_wrong_sync(frame);
     if wrong < 162 {
-        return Read::Refused(Refusal {
+        return Packed::Refused(Refusal {
             number: WRONG_SYNC,
             place: wrong as u32,
         });
@@ -99,15 +93,15 @@ pub fn read_word(frame: &[u8]) -> Read
 }
 
 // The refusal of an answer; number and place are 0 where it is none.
-fn refusal_of(answer: Read) -> Refusal
+fn refusal_of(answer: Packed) -> Refusal
     ensures { λ r. ⌜ r ≡ refusalOf answer ⌝ }
 {
     match answer {
-        Read::Word(_) => Refusal {
+        Packed::Word(_) => Refusal {
             number: 0,
             place: 0,
         },
-        Read::Refused(refusal) => refusal,
+        Packed::Refused(refusal) => refusal,
     }
 }
 
@@ -120,7 +114,7 @@ pub fn read_message(frame: &[u8], callsign: &mut [u8], locator: &mut [u8]) -> Gi
     ensures refuses_exactly { λ r. ⌜ MessageRefusedExactly r (now (frame .entry)) (now (callsign .entry)) (now (locator .entry)) ⌝ }
 {
     let answer = read_word(frame);
-    let Read::Word(word) = answer else {
+    let Packed::Word(word) = answer else {
         return Given::Refused(refusal_of(answer));
     };
     message::unpack(word, callsign, locator)

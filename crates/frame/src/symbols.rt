@@ -4,7 +4,7 @@ ghost use Prim.Native.Nat.{_≤_};
 ghost use lib.ListN.{length};
 ghost use Rattle.frame.specs.Symbols.{frameOf, receivedBits, wrongSyncIn};
 ghost use Rattle.frame.specs.Answer.{firstLarge, firstWrongSync, wordOfData};
-use super::Read;
+use message::Packed;
 use super::sync::sync_vector;
 use refusal::NO_WORD;
 use refusal::Refusal;
@@ -89,7 +89,7 @@ pub fn received_bits(frame: &[u8]) -> [u8; 162]
 
 // The word of a frame whose symbols and sync bits are right, or that there is none. Only one word
 // may have its data bits: that one is encoded anew, and compared.
-pub(crate) fn word_of_data(frame: &[u8]) -> Read
+pub(crate) fn word_of_data(frame: &[u8]) -> Packed
     requires { ⌜ length (now frame) ≡ 162 ⌝ }
     requires { ⌜ 162 ≤ firstLarge (now frame) ⌝ }
     requires { ⌜ 162 ≤ firstWrongSync (now frame) ⌝ }
@@ -99,10 +99,10 @@ pub(crate) fn word_of_data(frame: &[u8]) -> Read
     let word = convolution::decode(received);
     let coded = convolution::encode(word);
     if !check::same(&coded, &received) {
-        return Read::Refused(Refusal {
+        return Packed::Refused(Refusal {
             number: NO_WORD,
             place: 0,
         });
     }
-    Read::Word(word)
+    Packed::Word(word)
 }

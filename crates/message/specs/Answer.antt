@@ -4,7 +4,6 @@ use mathlib.Core.Bool.{Bool, cond, not, _&&_, _||_}
 use mathlib.Core.List.{List, _++_}
 use lib.Dec.{eqb, leb, ltb}
 use lib.ListN.{length}
-use Rattle.refusal.specs.declared.Refusal.{Refusal}
 use Rattle.refusal.specs.Refusals.{refusal, wrongLength, badCharacter, badPower, wordTooLarge, badLocatorNumber, badPowerBits}
 use Rattle.message.specs.Character.{firstBad}
 use Rattle.power.specs.Powers.{legalPower}
@@ -72,15 +71,9 @@ pub record WordNumbers : Type 0 where
   pub place : ℕ
   pub word : ℕ
 
-abbrev pub wordGiven : ℕ → WordNumbers
-wordGiven w = record { number = 0; place = 0; word = w }
-
-abbrev pub wordRefused : Refusal → WordNumbers
-wordRefused f = record { number = f .number; place = f .place; word = 0 }
-
 unfoldable pub packedNumbers : Packed → WordNumbers
-packedNumbers (Packed.Word w) = wordGiven w
-packedNumbers (Packed.Refused f) = wordRefused f
+packedNumbers (Packed.Word w) = record { number = 0; place = 0; word = w }
+packedNumbers (Packed.Refused f) = record { number = f .number; place = f .place; word = 0 }
 
 -- Refusal number, place, power
 pub record PowerNumbers : Type 0 where

@@ -16,7 +16,7 @@ pub enum Checked {
     Refused(Refusal),
 }
 
-// The answer of `pack`.
+// A word, or why there is none: the answer of `pack`, and of what else gives a word.
 pub enum Packed {
     Word(u64),
     Refused(Refusal),

@@ -21,7 +21,6 @@ use libc::STDIN_FILENO;
 use output::print;
 use output::print_bar;
 use output::print_packed;
-use output::print_read;
 use output::print_unpacked;
 use output::print_written;
 use vector::Vector;
@@ -68,7 +67,7 @@ fn print_answers_of_word(word: u64) {
 
 // What the vector's symbols give: the word and the message.
 fn print_answers_of_symbols(symbols: &[u8]) {
-    print_read(frame::read_word(symbols));
+    print_packed(frame::read_word(symbols));
     print_bar();
     print_message_of_symbols(symbols);
 }

@@ -1,5 +1,4 @@
 // Prints what is answered: a word, a frame, a message, or in its stead the refusal.
-use frame::Read;
 use frame::Written;
 use libc::STDOUT_FILENO;
 use message::Given;
@@ -30,13 +29,6 @@ pub(crate) fn print_packed(packed: Packed) {
     match packed {
         Packed::Word(word) => print_word(word),
         Packed::Refused(refusal) => print_refusal(refusal),
-    }
-}
-
-pub(crate) fn print_read(read: Read) {
-    match read {
-        Read::Word(word) => print_word(word),
-        Read::Refused(refusal) => print_refusal(refusal),
     }
 }
 

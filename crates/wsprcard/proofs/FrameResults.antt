@@ -7,10 +7,10 @@ use Rattle.message.specs.RoundTrip.{IsRefused}
 use Rattle.message.specs.declared.Given.{Given}
 use Rattle.message.proofs.AnswerLaws.{nonzero-refused}
 use Rattle.refusal.specs.Refusals.{refusal, noWord}
-use Rattle.frame.specs.Answer.{wordWritten, messageWritten, frameAfterWord, frameAfterMessage, wordRead, messageRead, callsignRead, locatorRead, readNumbers}
+use Rattle.frame.specs.Answer.{wordWritten, messageWritten, frameAfterWord, frameAfterMessage, wordRead, messageRead, callsignRead, locatorRead}
 use Rattle.frame.specs.RoundTrip.{WordReadsBack, WordWritesBack, ReadRefused, MessageReadsBack, MessageWritesBack}
 use Rattle.frame.specs.declared.Written.{Written}
-use Rattle.frame.specs.declared.Read.{Read}
+use Rattle.message.specs.declared.Packed.{Packed}
 use Rattle.frame.proofs.AnswerLaws.{written-answered, message-answered, read-answered, read-none, message-read-answered}
 use Rattle.frame.proofs.RoundTripLaws.{WriteWordPromised, WriteMessagePromised, ReadWordPromised, ReadMessagePromised}
 use Rattle.wsprcard.specs.Results.{writtenResult, wordResult, messageResult, FrameReadsAsWord, FrameReadsAsMessage, WordWritesFrame, FrameRefusedExactly, NoWordExactly, MessageWritesFrame, MessageFrameRefusedExactly}
@@ -42,26 +42,26 @@ write-message-results callsign locator power frame answer content r result (e, (
 -- ---- Reading
 
 -- An answer whose number isn't 0 is a refusal.
-read-refused : (answer : Read) → (readNumbers answer .number ≡ 0 → ⊥) → ReadRefused answer
-unfolding readNumbers
-read-refused (Read.Word w) nonzero = nonzero refl
-read-refused (Read.Refused f) nonzero = tt
+read-refused : (answer : Packed) → (packedNumbers answer .number ≡ 0 → ⊥) → ReadRefused answer
+unfolding packedNumbers
+read-refused (Packed.Word w) nonzero = nonzero refl
+read-refused (Packed.Refused f) nonzero = tt
 
-pub read-word-results : (frame : List ℕ) (answer : Read) (r : WsprWord) → r ≡ wordResult (readNumbers answer) → ReadWordPromised frame answer
-    → (r ≡ wordResult (readNumbers (wordRead frame))) × (WordWritesFrame r frame × (FrameRefusedExactly r frame × NoWordExactly r frame))
-unfolding wordResult readNumbers
+pub read-word-results : (frame : List ℕ) (answer : Packed) (r : WsprWord) → r ≡ wordResult (packedNumbers answer) → ReadWordPromised frame answer
+    → (r ≡ wordResult (packedNumbers (wordRead frame))) × (WordWritesFrame r frame × (FrameRefusedExactly r frame × NoWordExactly r frame))
+unfolding wordResult packedNumbers
 read-word-results frame answer r result (e, (back, (exactly, none))) =
-    let answered : readNumbers answer .number ≡ 0 → answer ≡ Read.Word (readNumbers answer .word) = rw e (read-answered frame) in
-    let writes : WordWritesFrame (wordResult (readNumbers answer)) frame =
-    λ z. subst (λ (a : Read). WordWritesBack a frame) (answered z) back in
-    let refuses : FrameRefusedExactly (wordResult (readNumbers answer)) frame = (
+    let answered : packedNumbers answer .number ≡ 0 → answer ≡ Packed.Word (packedNumbers answer .word) = rw e (read-answered frame) in
+    let writes : WordWritesFrame (wordResult (packedNumbers answer)) frame =
+    λ z. subst (λ (a : Packed). WordWritesBack a frame) (answered z) back in
+    let refuses : FrameRefusedExactly (wordResult (packedNumbers answer)) frame = (
       λ nonzero. exactly .0 (read-refused answer nonzero),
       λ never z. subst ReadRefused (answered z) (exactly .1 never),
     ) in
-    let is-none : readNumbers answer .number ≡ noWord → answer ≡ Read.Refused (refusal noWord 0) = rw e (read-none frame) in
-    let nine : NoWordExactly (wordResult (readNumbers answer)) frame =
-    (λ n. none .0 (is-none n), λ given. ap (λ (a : Read). readNumbers a .number) (none .1 given)) in
-    rw result (ap (λ (a : Read). wordResult (readNumbers a)) e, (writes, (refuses, nine)))
+    let is-none : packedNumbers answer .number ≡ noWord → answer ≡ Packed.Refused (refusal noWord 0) = rw e (read-none frame) in
+    let nine : NoWordExactly (wordResult (packedNumbers answer)) frame =
+    (λ n. none .0 (is-none n), λ given. ap (λ (a : Packed). packedNumbers a .number) (none .1 given)) in
+    rw result (ap (λ (a : Packed). wordResult (packedNumbers a)) e, (writes, (refuses, nine)))
 
 pub read-message-results : (frame callsign locator : List ℕ) (answer : Given) (its-callsign its-locator : List ℕ) (r : WsprMessage)
     → r ≡ messageResult (givenNumbers answer) → ReadMessagePromised frame callsign locator answer its-callsign its-locator

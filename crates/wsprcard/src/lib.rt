@@ -2,12 +2,11 @@
 // its crate, with the answer's result numbers in a struct.
 ghost use mathlib.Core.Path.{_≡_};
 ghost use Rattle.message.specs.Answer.{packed, unpacked, callsignAfter, locatorAfter, packedNumbers, givenNumbers, wordGiven, wordRefused};
-ghost use Rattle.frame.specs.Answer.{wordWritten, messageWritten, frameAfterWord, frameAfterMessage, wordRead, messageRead, callsignRead, locatorRead, readNumbers};
+ghost use Rattle.frame.specs.Answer.{wordWritten, messageWritten, frameAfterWord, frameAfterMessage, wordRead, messageRead, callsignRead, locatorRead};
 ghost use Rattle.repair.specs.Answer.{repaired, repairNumbers};
 ghost use Rattle.repair.specs.Demand.{AsChecked, AsDemanded, TwoFlipsRepaired};
 ghost use Rattle.telemetry.specs.Answer.{written, decoded, decodedNumbers, callsignWritten, locatorWritten};
 ghost use Rattle.wsprcard.specs.Results.{writtenResult, wordResult, messageResult, repairedResult, answerIn, readingResult, measuredFrom, PackedReadsBack, MessagePacksBack, UnpackRefusedExactly, FrameReadsAsWord, FrameReadsAsMessage, WordWritesFrame, FrameRefusedExactly, NoWordExactly, MessageWritesFrame, MessageFrameRefusedExactly, TelemetryReadsBack, TelemetryWritesBack, TelemetryRefusedExactly};
-use frame::Read;
 use frame::Written;
 use message::Given;
 use message::Packed;
@@ -233,14 +232,14 @@ pub extern "C" fn wspr_write_message(
 // The word of a frame.
 #[no_mangle]
 pub extern "C" fn wspr_read_word(frame: &[u8]) -> WsprWord
-    ensures answer { λ r. ⌜ r ≡ wordResult (readNumbers (wordRead (now (frame .entry)))) ⌝ }
+    ensures answer { λ r. ⌜ r ≡ wordResult (packedNumbers (wordRead (now (frame .entry)))) ⌝ }
     ensures writes_back { λ r. ⌜ WordWritesFrame r (now (frame .entry)) ⌝ }
     ensures refuses_exactly { λ r. ⌜ FrameRefusedExactly r (now (frame .entry)) ⌝ }
     ensures no_word { λ r. ⌜ NoWordExactly r (now (frame .entry)) ⌝ }
 {
     match frame::read_word(frame) {
-        Read::Word(word) => given_word(word),
-        Read::Refused(refusal) => refused_word(refusal),
+        Packed::Word(word) => given_word(word),
+        Packed::Refused(refusal) => refused_word(refusal),
     }
 }
 

@@ -1,8 +1,8 @@
 -- `wsprcard::wspr_read_word` meets its contract: the layer's answer, in its struct, case by case.
 -- Assumes nothing.
 use mathlib.Core.Path.{sym, ap, _∙_}
-use Rattle.frame.specs.Answer.{readNumbers}
-use Rattle.frame.specs.declared.Read.{Read}
+use Rattle.frame.specs.Answer.{packedNumbers}
+use Rattle.message.specs.declared.Packed.{Packed}
 use Rattle.wsprcard.specs.Results.{wordResult}
 use Rattle.wsprcard.proofs.FrameResults.{read-word-results}
 use borrow.Author.Needs.{needs}
@@ -25,19 +25,19 @@ refused-word-requires : tie.Need-refused-word-requires
 refused-word-requires c κs = search needs
 
 returns : tie.Need-returns
-unfolding readNumbers
+unfolding packedNumbers
 returns c =
     let p = c .before .before .before .before in
     let a = p .before .before .args in
-    let result = c .given-word .ensures ∙ sym (ap (λ (x : Read). wordResult (readNumbers x)) (c .before .before .word .given .1)) in
+    let result = c .given-word .ensures ∙ sym (ap (λ (x : Packed). wordResult (packedNumbers x)) (c .before .before .word .given .1)) in
     read-word-results (a .frame .now) (p .read-word .result) _ result (p .read-word .ensures)
 
 returns-2 : tie.Need-returns-2
-unfolding readNumbers
+unfolding packedNumbers
 returns-2 c =
     let p = c .before .before .before .before in
     let a = p .before .before .args in
-    let result = c .refused-word .ensures ∙ sym (ap (λ (x : Read). wordResult (readNumbers x)) (c .before .before .refusal .given .1)) in
+    let result = c .refused-word .ensures ∙ sym (ap (λ (x : Packed). wordResult (packedNumbers x)) (c .before .before .refusal .given .1)) in
     read-word-results (a .frame .now) (p .read-word .result) _ result (p .read-word .ensures)
 
 pub wspr-read-word-spec : {M : Type 1} → statement M
