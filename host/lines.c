@@ -55,11 +55,16 @@ static uint32_t with_digit(uint32_t number, uint32_t digit)
     return number > (UINT32_MAX - digit) / 10 ? UINT32_MAX : number * 10 + digit;
 }
 
+bool is_digit(uint8_t c)
+{
+    return c >= '0' && c <= '9';
+}
+
 bool read_number(span text, uint32_t *number)
 {
     *number = 0;
     for (size_t i = 0; i < text.length; i++) {
-        if (text.start[i] < '0' || text.start[i] > '9')
+        if (!is_digit(text.start[i]))
             return false;
         *number = with_digit(*number, (uint32_t)(text.start[i] - '0'));
     }

@@ -32,6 +32,8 @@ span text_of_line(const line *l);
 /* Takes the last field off the text, and the spaces before it. It is empty where there is none. */
 span take_last_field(span *text);
 
+bool is_digit(uint8_t c);
+
 /* Decimal digits and nothing else, up to the largest number of the type. False where the text is anything else. */
 bool read_number(span text, uint32_t *number);
 

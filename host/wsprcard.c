@@ -2,6 +2,7 @@
  * manual page is wsprcard.1. */
 #include <errno.h>
 #include <inttypes.h>
+#include <stdbool.h>
 #include <stdio.h>
 #include <string.h>
 
@@ -15,13 +16,26 @@
 
 enum { ALL_ANSWERED, SOME_REFUSED, CALLED_WRONGLY, FAILED };
 
-/* What the summary counts. Messages and telemetry are those of repaired words. */
+/* A run of a command: what it was called with, how it prints, and what the summary counts. Messages and telemetry are
+ * those of repaired words. */
 typedef struct {
+    const call *call;
+    const output *out;
     uint64_t lines, refused, by_number[LARGEST_REFUSAL + 1], messages, telemetry;
-} tally;
+} run;
 
-/* Answers a line, or gives the refusal and prints nothing. */
-typedef refusal answer(const call *c, const output *out, const line *l, tally *t);
+/* What a line is to be, and what answers it or prints nothing and gives the refusal. */
+typedef struct {
+    form of;
+    refusal (*answer)(run *r, const line *l);
+} job;
+
+/* A line's message, before the card has seen it. The callsign may stand in `field`. */
+typedef struct {
+    span callsign, locator;
+    uint32_t power;
+    uint8_t field[CALLSIGN];
+} typed_message;
 
 static const refusal none = {0, 0};
 
@@ -30,24 +44,15 @@ static const refusal none = {0, 0};
  * for the card to refuse. */
 static span callsign_field(span typed, uint8_t field[CALLSIGN])
 {
-    uint32_t digit;
-    size_t place = 0;
+    bool second = typed.length > 1 && is_digit(typed.start[1]);
+    bool third = typed.length > 2 && is_digit(typed.start[2]);
 
     if (typed.length == 0 || typed.length >= CALLSIGN)
         return typed;
-    if (typed.length >= 2 && read_number((span){typed.start + 1, 1}, &digit))
-        place = typed.length == 2 || !read_number((span){typed.start + 2, 1}, &digit);
     memset(field, ' ', CALLSIGN);
-    memcpy(field + place, typed.start, typed.length);
+    memcpy(field + (second && !third), typed.start, typed.length);
     return (span){field, CALLSIGN};
 }
-
-/* A line's message, before the card has seen it. */
-typedef struct {
-    span callsign, locator;
-    uint32_t power;
-    uint8_t field[CALLSIGN];
-} typed_message;
 
 /* A line of fewer than three fields has an empty callsign, which the card refuses. */
 static void take_message(const line *l, typed_message *m)
@@ -63,7 +68,7 @@ static void take_message(const line *l, typed_message *m)
 static void take_frame(const line *l, uint8_t *frame)
 {
     for (size_t i = 0; i < l->length; i++)
-        frame[i] = l->bytes[i] >= '0' && l->bytes[i] <= '9' ? (uint8_t)(l->bytes[i] - '0') : UINT8_MAX;
+        frame[i] = is_digit(l->bytes[i]) ? (uint8_t)(l->bytes[i] - '0') : UINT8_MAX;
 }
 
 /* One of a field's two characters, or zero, which the card refuses, where there aren't two. */
@@ -83,7 +88,7 @@ static bool take_report(const line *l, span field[REPORT_FIELDS])
 }
 
 /* What is shown of the message is what the card says of its word, not what was typed. */
-static refusal answer_encode(const call *c, const output *out, const line *l, tally *t)
+static refusal answer_encode(run *r, const line *l)
 {
     uint8_t frame[SYMBOLS];
     typed_message typed;
@@ -91,8 +96,6 @@ static refusal answer_encode(const call *c, const output *out, const line *l, ta
     wspr_written written;
     wspr_word w;
 
-    (void)c;
-    (void)t;
     take_message(l, &typed);
     w = wspr_pack(typed.callsign.start, typed.callsign.length, typed.locator.start, typed.locator.length, typed.power);
     if (w.refusal)
@@ -103,68 +106,62 @@ static refusal answer_encode(const call *c, const output *out, const line *l, ta
     written = wspr_write_word(w.word, frame, SYMBOLS);
     if (written.refusal)
         return (refusal){written.refusal, written.place};
-    out->frame(&m, w.word, frame);
+    r->out->frame(&m, w.word, frame);
     return none;
 }
 
-static refusal answer_read(const call *c, const output *out, const line *l, tally *t)
+static refusal answer_read(run *r, const line *l)
 {
     uint8_t frame[sizeof l->bytes];
     message m;
 
-    (void)c;
-    (void)t;
     take_frame(l, frame);
     m.card = wspr_read_message(frame, l->length, m.callsign, CALLSIGN, m.locator, LOCATOR);
     if (m.card.refusal)
         return (refusal){m.card.refusal, m.card.place};
-    out->message(&m);
+    r->out->message(&m);
     return none;
 }
 
-static refusal answer_repair(const call *c, const output *out, const line *l, tally *t)
+static refusal answer_repair(run *r, const line *l)
 {
     uint8_t frame[sizeof l->bytes];
     u4b_reading telemetry = {0};
-    wspr_repaired r;
+    wspr_repaired repaired;
     message m;
 
     take_frame(l, frame);
-    r = wspr_repair(frame, l->length, c->option[LIMIT], c->option[BUDGET]);
-    if (r.refusal)
-        return (refusal){r.refusal, r.place};
-    m.card = wspr_unpack(r.word, m.callsign, CALLSIGN, m.locator, LOCATOR);
+    repaired = wspr_repair(frame, l->length, r->call->option[LIMIT], r->call->option[BUDGET]);
+    if (repaired.refusal)
+        return (refusal){repaired.refusal, repaired.place};
+    m.card = wspr_unpack(repaired.word, m.callsign, CALLSIGN, m.locator, LOCATOR);
     if (!m.card.refusal) {
         telemetry = u4b_read(m.callsign, CALLSIGN, m.locator, LOCATOR, m.card.power);
-        t->messages++;
-        t->telemetry += !telemetry.refusal;
+        r->messages++;
+        r->telemetry += !telemetry.refusal;
     }
-    print_repair(out, &r, &m, &telemetry);
+    print_repair(r->out, &repaired, &m, &telemetry);
     return none;
 }
 
-static refusal answer_telemetry(const call *c, const output *out, const line *l, tally *t)
+static refusal answer_telemetry(run *r, const line *l)
 {
     typed_message m;
-    u4b_reading r;
+    u4b_reading report;
 
-    (void)c;
-    (void)t;
     take_message(l, &m);
-    r = u4b_read(m.callsign.start, m.callsign.length, m.locator.start, m.locator.length, m.power);
-    if (r.refusal)
-        return (refusal){r.refusal, r.place};
-    out->report(&r);
+    report = u4b_read(m.callsign.start, m.callsign.length, m.locator.start, m.locator.length, m.power);
+    if (report.refusal)
+        return (refusal){report.refusal, report.place};
+    r->out->report(&report);
     return none;
 }
 
-static refusal answer_report(const call *c, const output *out, const line *l, tally *t)
+static refusal answer_report(run *r, const line *l)
 {
     span f[REPORT_FIELDS];
     message m;
 
-    (void)c;
-    (void)t;
     if (!take_report(l, f))
         return (refusal){1, 0};
     m.card = u4b_write(one_of_two(f[0], 0), one_of_two(f[0], 1), one_of_two(f[1], 0), one_of_two(f[1], 1),
@@ -172,47 +169,45 @@ static refusal answer_report(const call *c, const output *out, const line *l, ta
                        m.callsign, CALLSIGN, m.locator, LOCATOR);
     if (m.card.refusal)
         return (refusal){m.card.refusal, m.card.place};
-    out->message(&m);
+    r->out->message(&m);
     return none;
 }
 
-/* What a command takes a line for and how it answers it, without --write and with it. */
-static const struct {
-    form of;
-    answer *answer;
-} jobs[COMMANDS][2] = {
+/* Those of each command, without --write and with it. */
+static const job jobs[COMMANDS][2] = {
     [ENCODE] = {{MESSAGE, answer_encode}},
     [READ] = {{FRAME, answer_read}},
     [REPAIR] = {{FRAME, answer_repair}},
     [TELEMETRY] = {{MESSAGE, answer_telemetry}, {REPORT, answer_report}},
 };
 
-static void count_line(tally *t, refusal r)
+/* A number that isn't in the card's table is counted as 0. */
+static void count_line(run *r, refusal refused)
 {
-    t->lines++;
-    if (r.number) {
-        t->refused++;
-        t->by_number[r.number <= LARGEST_REFUSAL ? r.number : 0]++;
+    r->lines++;
+    if (refused.number) {
+        r->refused++;
+        r->by_number[refused.number <= LARGEST_REFUSAL ? refused.number : 0]++;
     }
 }
 
-static void print_summary(const call *c, const tally *t)
+static void print_summary(const run *r)
 {
     const char *before = " (";
 
-    fprintf(stderr, "wsprcard %s: %" PRIu64 " lines, %" PRIu64 " answered, %" PRIu64 " refused", c->name, t->lines,
-            t->lines - t->refused, t->refused);
+    fprintf(stderr, "wsprcard %s: %" PRIu64 " lines, %" PRIu64 " answered, %" PRIu64 " refused", r->call->name,
+            r->lines, r->lines - r->refused, r->refused);
     for (size_t i = 0; i <= LARGEST_REFUSAL; i++) {
-        if (t->by_number[i]) {
-            fprintf(stderr, "%s%zu: %" PRIu64, before, i, t->by_number[i]);
+        if (r->by_number[i]) {
+            fprintf(stderr, "%s%zu: %" PRIu64, before, i, r->by_number[i]);
             before = ", ";
         }
     }
-    if (t->refused)
-        fputs(")", stderr);
-    if (c->command == REPAIR)
-        fprintf(stderr, "; %" PRIu64 " messages, %" PRIu64 " telemetry", t->messages, t->telemetry);
-    fputs("\n", stderr);
+    if (r->refused)
+        fputc(')', stderr);
+    if (r->call->command == REPAIR)
+        fprintf(stderr, "; %" PRIu64 " messages, %" PRIu64 " telemetry", r->messages, r->telemetry);
+    fputc('\n', stderr);
 }
 
 static int failed(const char *what)
@@ -222,32 +217,31 @@ static int failed(const char *what)
 }
 
 /* A reader at the other end of a pipe is to see each answer at once. */
-static int sent(void)
+static int send_output(void)
 {
     return fflush(stdout) == 0 && !ferror(stdout) ? ALL_ANSWERED : failed("the output can't be written");
 }
 
-static int run(const call *c)
+static int answer_lines(const call *c)
 {
-    const output *out = c->option[JSON] ? &json_output : &plain_output;
-    form of = jobs[c->command][c->option[WRITE]].of;
-    tally t = {0};
+    const job *j = &jobs[c->command][c->option[WRITE]];
+    run r = {.call = c, .out = c->option[JSON] ? &json_output : &plain_output};
     line l;
 
     while (read_line(stdin, &l)) {
-        refusal r = jobs[c->command][c->option[WRITE]].answer(c, out, &l, &t);
+        refusal refused = j->answer(&r, &l);
 
-        if (r.number)
-            out->refused(r, of);
+        if (refused.number)
+            r.out->refused(refused, j->of);
         putchar('\n');
-        count_line(&t, r);
-        if (sent() == FAILED)
+        count_line(&r, refused);
+        if (send_output() == FAILED)
             return FAILED;
     }
     if (ferror(stdin))
         return failed("the input can't be read");
-    print_summary(c, &t);
-    return t.refused ? SOME_REFUSED : ALL_ANSWERED;
+    print_summary(&r);
+    return r.refused ? SOME_REFUSED : ALL_ANSWERED;
 }
 
 int main(int argc, char **argv)
@@ -258,9 +252,9 @@ int main(int argc, char **argv)
     setvbuf(stderr, NULL, _IOLBF, BUFSIZ);
     switch (read_arguments(argc > 0 ? argv + 1 : argv, &c)) {
     case RUN:
-        return run(&c);
+        return answer_lines(&c);
     case SHOWN:
-        return sent();
+        return send_output();
     default:
         return CALLED_WRONGLY;
     }
