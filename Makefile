@@ -35,9 +35,9 @@ program: library
 
 $(CARD): library
 
-build/wsprcard: host/wsprcard.c include/wsprcard.h $(CARD)
+build/wsprcard: $(wildcard host/*.c host/*.h) include/wsprcard.h $(CARD)
 	mkdir -p build
-	$(COMPILE) -o $@ host/wsprcard.c $(CARD)
+	$(COMPILE) -o $@ host/*.c $(CARD)
 
 build/%: tests/c/%.c include/wsprcard.h $(CARD)
 	mkdir -p build

@@ -1,0 +1,211 @@
+/* Reads the program's arguments, and shows help, version and usage. */
+#include "options.h"
+
+#include <stdbool.h>
+#include <stdio.h>
+#include <string.h>
+
+#include "lines.h"
+
+#define VERSION "wsprcard 1.0\n"
+
+/* A wrong argument is shown up to this length. */
+#define SHOWN_LENGTH 40
+
+#define BIT(option) (1u << (option))
+
+static const struct {
+    const char *name;
+    bool takes_number;
+    uint32_t unless_given;
+    const char *help;
+} options[OPTIONS] = {
+    [LIMIT] = {"--limit", true, 2,
+               "  --limit N   the most disagreements that a repaired word may have,\n"
+               "              0 to 12; 2 unless given\n"},
+    [BUDGET] = {"--budget", true, 16000,
+                "  --budget N  the largest live count that is searched through,\n"
+                "              1 to 65536; 16000 unless given\n"},
+    [WRITE] = {"--write", false, 0, "  --write     a report to its message\n"},
+    [JSON] = {"--json", false, 0, "  --json      one JSON object a line instead of plain text\n"},
+};
+
+#define MESSAGE_HELP \
+    "A message is callsign, locator and power in dBm, as K1ABC FN20 37.\n"
+#define FRAME_HELP \
+    "A frame is 162 digits 0 to 3, the symbols in the order in which they are sent.\n"
+#define REPAIR_HELP \
+    "The answer is the word, its message, the message's telemetry, the disagreements,\n" \
+    "the live count and the number of wrong sync bits.\n"
+#define REPORT_HELP \
+    "A report is channel, sub-square, metres, degrees, millivolts, knots and GPS,\n" \
+    "as Q2 SK 12340 -15 4100 30 1.\n"
+
+static const struct {
+    const char *name, *takes, *does, *help;
+    unsigned options;
+} commands[COMMANDS] = {
+    [ENCODE] = {"encode", "[--json]", "a message to its frame", MESSAGE_HELP FRAME_HELP, BIT(JSON)},
+    [READ] = {"read", "[--json]", "a frame to its message, strictly: nothing is repaired", FRAME_HELP MESSAGE_HELP,
+              BIT(JSON)},
+    [REPAIR] = {"repair", "[--limit N] [--budget N] [--json]",
+                "a frame, damaged or not, to the one word that is nearest to it", FRAME_HELP REPAIR_HELP,
+                BIT(LIMIT) | BIT(BUDGET) | BIT(JSON)},
+    [TELEMETRY] = {"telemetry", "[--write] [--json]", "a message to the report in it; with --write the other way",
+                   MESSAGE_HELP REPORT_HELP, BIT(WRITE) | BIT(JSON)},
+};
+
+/* The usage of a command, or of the program for COMMANDS. */
+static void print_usage(FILE *to, command which)
+{
+    const char *before = "usage:";
+
+    for (command i = 0; i < COMMANDS; i++) {
+        if (which == i || which == COMMANDS) {
+            fprintf(to, "%-6s wsprcard %s %s\n", before, commands[i].name, commands[i].takes);
+            before = "";
+        }
+    }
+    if (which == COMMANDS)
+        fputs("       wsprcard [command] --help\n"
+              "       wsprcard --version\n",
+              to);
+}
+
+static void print_program_help(void)
+{
+    print_usage(stdout, COMMANDS);
+    fputs("\n"
+          "Writes, reads and repairs WSPR frames, and U4B telemetry in them. Each command\n"
+          "reads lines from standard input and answers each by one line on standard output.\n"
+          "\n",
+          stdout);
+    for (command i = 0; i < COMMANDS; i++)
+        printf("  %-9s  %s\n", commands[i].name, commands[i].does);
+    fputs("\nThe manual page wsprcard(1) says all of it.\n", stdout);
+}
+
+static void print_command_help(command which)
+{
+    print_usage(stdout, which);
+    printf("\nFor each line: %s.\n%s\n", commands[which].does, commands[which].help);
+    for (unsigned i = 0; i < OPTIONS; i++)
+        if (commands[which].options & BIT(i))
+            fputs(options[i].help, stdout);
+    fputs("  --help      this text; nothing is read\n", stdout);
+}
+
+/* A wrong argument as one short piece of a sentence, whatever its bytes are. */
+static void print_argument(const char *argument)
+{
+    fputc('\'', stderr);
+    for (size_t i = 0; argument[i] && i < SHOWN_LENGTH; i++)
+        fputc(argument[i] < ' ' || argument[i] > '~' ? '?' : argument[i], stderr);
+    fputs(strlen(argument) > SHOWN_LENGTH ? "...'" : "'", stderr);
+}
+
+/* Complaints begin with the argument, where there is one. */
+static outcome wrong(command which, const char *argument, const char *complaint)
+{
+    fprintf(stderr, "wsprcard%s%s: ", which == COMMANDS ? "" : " ", which == COMMANDS ? "" : commands[which].name);
+    if (argument)
+        print_argument(argument);
+    fprintf(stderr, "%s.\n", complaint);
+    print_usage(stderr, which);
+    return WRONG;
+}
+
+static command find_command(const char *name)
+{
+    command which = 0;
+
+    while (which < COMMANDS && strcmp(commands[which].name, name) != 0)
+        which++;
+    return which;
+}
+
+/* Whether the argument is this option. What stands behind an equals sign is its value. */
+static bool is_option(unsigned option, const char *argument, const char **value)
+{
+    size_t length = strlen(options[option].name);
+
+    *value = NULL;
+    if (strncmp(argument, options[option].name, length) != 0)
+        return false;
+    if (argument[length] == '=' && options[option].takes_number)
+        *value = argument + length + 1;
+    return *value || argument[length] == '\0';
+}
+
+/* The option that the argument is, if the command has it; else OPTIONS. */
+static unsigned find_option(command which, const char *argument, const char **value)
+{
+    unsigned option = 0;
+
+    while (option < OPTIONS && !(commands[which].options & BIT(option) && is_option(option, argument, value)))
+        option++;
+    return option;
+}
+
+static bool read_value(const char *value, uint32_t *number)
+{
+    return value && read_number((span){(const uint8_t *)value, strlen(value)}, number);
+}
+
+static outcome read_options(char **arguments, call *c)
+{
+    while (*arguments) {
+        const char *argument = *arguments++, *value;
+        unsigned option = find_option(c->command, argument, &value);
+
+        if (option == OPTIONS)
+            return wrong(c->command, argument, " isn't an option of this command");
+        c->option[option] = 1;
+        if (options[option].takes_number && !value && *arguments)
+            value = *arguments++;
+        if (options[option].takes_number && !read_value(value, &c->option[option]))
+            return wrong(c->command, options[option].name, " needs a number");
+    }
+    return RUN;
+}
+
+static bool among(char **arguments, const char *wanted)
+{
+    while (*arguments && strcmp(*arguments, wanted) != 0)
+        arguments++;
+    return *arguments != NULL;
+}
+
+static void set_command(command which, call *c)
+{
+    c->command = which;
+    c->name = commands[which].name;
+    for (unsigned i = 0; i < OPTIONS; i++)
+        c->option[i] = options[i].unless_given;
+}
+
+outcome read_arguments(char **arguments, call *c)
+{
+    const char *first = *arguments;
+    command which;
+
+    if (!first)
+        return wrong(COMMANDS, NULL, "a command is missing");
+    if (strcmp(first, "--help") == 0) {
+        print_program_help();
+        return SHOWN;
+    }
+    if (strcmp(first, "--version") == 0 && !arguments[1]) {
+        fputs(VERSION, stdout);
+        return SHOWN;
+    }
+    which = find_command(first);
+    if (which == COMMANDS)
+        return wrong(which, first, strcmp(first, "--version") == 0 ? " stands alone" : " isn't a command");
+    if (among(arguments, "--help")) {
+        print_command_help(which);
+        return SHOWN;
+    }
+    set_command(which, c);
+    return read_options(arguments + 1, c);
+}
