@@ -1,0 +1,27 @@
+/* Times of rounds, and what is printed of them. */
+#include "spread.h"
+
+#include <stdio.h>
+#include <stdlib.h>
+
+double ns_between(struct timespec start, struct timespec end)
+{
+    return (double)(end.tv_sec - start.tv_sec) * 1e9 + (double)(end.tv_nsec - start.tv_nsec);
+}
+
+static int by_size(const void *a, const void *b)
+{
+    double x = *(const double *)a, y = *(const double *)b;
+
+    return (x > y) - (x < y);
+}
+
+double print_times(double *times, size_t count)
+{
+    double median;
+
+    qsort(times, count, sizeof *times, by_size);
+    median = times[count / 2];
+    printf(" %10.1f %4.1f%%", median, 50 * (times[count * 3 / 4] - times[count / 4]) / median);
+    return median;
+}
