@@ -9,7 +9,7 @@
 #include "calls.h"
 #include "spread.h"
 
-#define ROUNDS 15
+#define ROUNDS 51
 #define MOST_ROUNDS 1000
 
 /* Noise is refused 17: its live count is within the budget, and no word is within the limit. At limit 12 no frame was
@@ -23,19 +23,19 @@ static const struct measured {
     size_t count;     /* of its inputs */
     uint32_t turns;   /* through all inputs in a round */
 } cases[] = {
-    {"pack a message", &pack, draw_message, 0, 1, 0, INPUTS, 100},
-    {"unpack a word", &unpack, draw_word_of_message, 0, 1, 0, INPUTS, 100},
-    {"write a message's frame", &write_message, draw_message, 0, 1, 0, INPUTS, 20},
-    {"write a word's frame", &write_word, draw_word, 0, 1, 0, INPUTS, 20},
-    {"read a frame to its message", &read_message, draw_frame_of_message, 0, 1, 0, INPUTS, 20},
-    {"read a frame to its word", &read_word, draw_frame_of_word, 0, 1, 0, INPUTS, 20},
-    {"repair, clean, limit 2", &repair, draw_frame_of_word, 2, 16000, 0, INPUTS, 6},
-    {"repair, two flips, limit 2", &repair, draw_two_flips, 2, 16000, 0, INPUTS, 6},
-    {"repair, clean, limit 8", &repair, draw_frame_of_word, 8, 65536, 0, 64, 1},
-    {"repair, noise, limit 11", &repair, draw_noise, 11, 65536, 17, 64, 1},
-    {"repair, over budget, limit 12", &repair, draw_frame_of_word, 12, 65536, 16, 64, 1},
-    {"write telemetry", &write_report, draw_report, 0, 1, 0, INPUTS, 100},
-    {"read telemetry", &read_report, draw_message_of_report, 0, 1, 0, INPUTS, 100},
+    {"pack a message", &pack, draw_message, 0, 1, 0, INPUTS, 20},
+    {"unpack a word", &unpack, draw_word_of_message, 0, 1, 0, INPUTS, 20},
+    {"write a message's frame", &write_message, draw_message, 0, 1, 0, INPUTS, 2},
+    {"write a word's frame", &write_word, draw_word, 0, 1, 0, INPUTS, 2},
+    {"read a frame to its message", &read_message, draw_frame_of_message, 0, 1, 0, INPUTS, 2},
+    {"read a frame to its word", &read_word, draw_frame_of_word, 0, 1, 0, INPUTS, 2},
+    {"repair, clean, limit 2", &repair, draw_frame_of_word, 2, 16000, 0, INPUTS, 1},
+    {"repair, two flips, limit 2", &repair, draw_two_flips, 2, 16000, 0, INPUTS, 1},
+    {"repair, clean, limit 8", &repair, draw_frame_of_word, 8, 65536, 0, 32, 1},
+    {"repair, noise, limit 11", &repair, draw_noise, 11, 65536, 17, 32, 1},
+    {"repair, over budget, limit 12", &repair, draw_frame_of_word, 12, 65536, 16, 32, 1},
+    {"write telemetry", &write_report, draw_report, 0, 1, 0, INPUTS, 20},
+    {"read telemetry", &read_report, draw_message_of_report, 0, 1, 0, INPUTS, 20},
 };
 
 enum { CASES = sizeof cases / sizeof *cases };
@@ -104,16 +104,17 @@ static void hold_refusal(const struct measured *c, const inputs *in)
     }
 }
 
-/* How many ns a call takes. It isn't inlined, so that a profiler can tell what is timed from the rest. */
+/* How many ns of the processor a call takes. It isn't inlined, so that a profiler can tell what is timed from the
+ * rest. */
 __attribute__((noinline)) static double time_calls(const struct measured *c, any_call *call, const inputs *in)
 {
     static answer out;
     struct timespec start, end;
 
-    clock_gettime(CLOCK_MONOTONIC, &start);
+    clock_gettime(CLOCK_PROCESS_CPUTIME_ID, &start);
     for (uint32_t turn = 0; turn < c->turns; turn++)
         c->layer->run(call, in, 0, c->count, &out);
-    clock_gettime(CLOCK_MONOTONIC, &end);
+    clock_gettime(CLOCK_PROCESS_CPUTIME_ID, &end);
     return ns_between(start, end) / (double)c->count / c->turns;
 }
 
@@ -124,14 +125,30 @@ static void time_round(const struct measured *c, const inputs *in, double times[
         times[k][round] = time_calls(c, c->layer->calls[k], in);
 }
 
+/* How often the time of one call goes into the card's, round by round: their median. What slows a whole round down
+ * leaves its ratio as it is. */
+static double median_ratio(const double *card, const double *by_hand, size_t rounds)
+{
+    double ratios[MOST_ROUNDS];
+
+    for (size_t i = 0; i < rounds; i++)
+        ratios[i] = card[i] / by_hand[i];
+    return sort_to_median(ratios, rounds);
+}
+
+/* The ratios come first, as printing sorts the times. */
 static void print_row(const struct measured *c, double times[CALLS][MOST_ROUNDS], size_t rounds)
 {
-    double card;
+    double ratios[CALLS];
 
-    printf("%-30s", c->what);
-    card = print_times(times[0], rounds);
-    for (size_t k = 1; k < CALLS && c->layer->calls[k]; k++)
-        printf(" %6.2f", card / print_times(times[k], rounds));
+    for (size_t k = 1; k < CALLS; k++)
+        ratios[k] = median_ratio(times[0], times[k], rounds);
+    printf("%-30s %6zu", c->what, c->count * c->turns);
+    print_times(times[0], rounds);
+    for (size_t k = 1; k < CALLS && c->layer->calls[k]; k++) {
+        print_times(times[k], rounds);
+        printf(" %6.2f", ratios[k]);
+    }
     printf("\n");
     fflush(stdout);
 }
@@ -174,9 +191,9 @@ int main(int argc, char **argv)
     size_t rounds = argument(argc > 1 ? argv[1] : NULL, ROUNDS, 1, MOST_ROUNDS);
     size_t first = argument(argc > 2 ? argv[2] : NULL, 0, 0, CASES - 1), end = argc > 2 ? first + 1 : CASES;
 
-    printf("ns a call, medians of %zu rounds; after each, half the distance of its quartiles;\n", rounds);
-    printf("ratios are the card's time by that of the calls by hand\n\n");
-    printf("%-30s %16s %16s %6s %16s %6s\n", "", "card", "C", "ratio", "tuned C", "ratio");
+    printf("ns a call, medians of %zu rounds of so many calls, with half the distance of their quartiles;\n", rounds);
+    printf("ratios are the card's time by that of the call by hand in the same round, medians too\n\n");
+    printf("%-30s %6s %16s %16s %6s %16s %6s\n", "", "calls", "card", "C", "ratio", "tuned C", "ratio");
     for (size_t i = first; i < end; i++)
         measure(&cases[i], rounds);
     printf("\nBefore, the calls by hand gave the card's answers to %zu inputs, of which it refuses %zu.\n",

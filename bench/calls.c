@@ -99,4 +99,6 @@ const layer repair = {
 const layer write_report = {
     run_write_report, {ANY(u4b_write), ANY(hand_u4b_write)}, sizeof(wspr_message), spoil_report,
 };
-const layer read_report = {run_read_report, {ANY(u4b_read), ANY(hand_u4b_read)}, sizeof(u4b_reading), spoil_message};
+const layer read_report = {
+    run_read_report, {ANY(u4b_read), ANY(hand_u4b_read)}, sizeof(u4b_reading), spoil_message_of_report,
+};

@@ -109,7 +109,7 @@ void draw_message_of_report(inputs *in, size_t i)
                          r->gps, m->callsign, CALLSIGN, m->locator, LOCATOR).power;
 }
 
-/* Characters beside the ends of the sets, too; in telemetry's messages they also change its numbers. */
+/* Characters beside the ends of the sets, too. */
 void spoil_message(inputs *in, size_t i)
 {
     message *m = &in->messages[i];
@@ -124,9 +124,44 @@ void spoil_message(inputs *in, size_t i)
         m->power = below(64);
 }
 
+/* Also to the ends of telemetry's numbers, which are at ?Z?AAH and at RM31 with the power 33. */
+void spoil_message_of_report(inputs *in, size_t i)
+{
+    message *m = &in->messages[i];
+
+    switch (below(3)) {
+    case 0:
+        m->callsign[1] = 'Z';
+        memset(m->callsign + 3, 'A', 2);
+        m->callsign[5] = (uint8_t)('A' + below(26));
+        break;
+    case 1:
+        memcpy(m->locator, "RM31", LOCATOR);
+        m->power = powers[below(POWERS)];
+        break;
+    default:
+        spoil_message(in, i);
+    }
+}
+
+/* To four times the words that there are, or to the ends of a message's numbers in a word. */
 void spoil_word(inputs *in, size_t i)
 {
-    in->words[i] = random_number() >> (64 - WORD_BITS - 2 + below(6));
+    uint64_t *word = &in->words[i];
+
+    switch (below(4)) {
+    case 0:
+        *word = random_number() >> (64 - WORD_BITS - 2);
+        break;
+    case 1:
+        *word = (uint64_t)(262177550 + below(20)) << 22 | (*word & 0x3fffff);
+        break;
+    case 2:
+        *word = (*word & ~(uint64_t)0x3fff80) | (32390 + below(20)) << 7;
+        break;
+    default:
+        *word ^= below(128);
+    }
 }
 
 void spoil_frame(inputs *in, size_t i)

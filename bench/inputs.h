@@ -34,7 +34,7 @@ draw draw_report, draw_message_of_report;
 draw draw_noise;
 
 /* Changes one thing of an input, to what may be refused. */
-draw spoil_message, spoil_word, spoil_frame, spoil_report;
+draw spoil_message, spoil_word, spoil_frame, spoil_report, spoil_message_of_report;
 
 /* What is the same for all inputs: right where `way` is 0, and a wrong length or bound at each from 1 on. */
 #define WAYS 7

@@ -16,12 +16,15 @@ static int by_size(const void *a, const void *b)
     return (x > y) - (x < y);
 }
 
-double print_times(double *times, size_t count)
+double sort_to_median(double *numbers, size_t count)
 {
-    double median;
+    qsort(numbers, count, sizeof *numbers, by_size);
+    return numbers[count / 2];
+}
 
-    qsort(times, count, sizeof *times, by_size);
-    median = times[count / 2];
+void print_times(double *times, size_t count)
+{
+    double median = sort_to_median(times, count);
+
     printf(" %10.1f %4.1f%%", median, 50 * (times[count * 3 / 4] - times[count / 4]) / median);
-    return median;
 }

@@ -8,8 +8,10 @@
 /* How many ns lie between two times of a clock. */
 double ns_between(struct timespec start, struct timespec end);
 
-/* Prints the median, and half the distance of the quartiles in percent of it. Returns the median. The times are
- * sorted. */
-double print_times(double *times, size_t count);
+/* Sorts them, and returns their median. */
+double sort_to_median(double *numbers, size_t count);
+
+/* Sorts them, and prints their median and half the distance of their quartiles in percent of it. */
+void print_times(double *times, size_t count);
 
 #endif
