@@ -10,7 +10,6 @@
 #include "spread.h"
 
 #define ROUNDS 51
-#define MOST_ROUNDS 1000
 
 /* Noise is refused 17: its live count is within the budget, and no word is within the limit. At limit 12 no frame was
  * found that is within the largest budget: every one is refused 16, after 65,536 prefixes. */
@@ -119,35 +118,29 @@ __attribute__((noinline)) static double time_calls(const struct measured *c, any
 }
 
 /* One round: every call of the case in turn. */
-static void time_round(const struct measured *c, const inputs *in, double times[CALLS][MOST_ROUNDS], size_t round)
+static void time_round(const struct measured *c, const inputs *in, double times[CALLS][MOST_TIMES], size_t round)
 {
     for (size_t k = 0; k < CALLS && c->layer->calls[k]; k++)
         times[k][round] = time_calls(c, c->layer->calls[k], in);
 }
 
-/* How often the time of one call goes into the card's, round by round: their median. What slows a whole round down
- * leaves its ratio as it is. */
+/* The median of the rounds' ratios. What slows a whole round down leaves its ratio as it is. */
 static double median_ratio(const double *card, const double *by_hand, size_t rounds)
 {
-    double ratios[MOST_ROUNDS];
+    double ratios[MOST_TIMES];
 
     for (size_t i = 0; i < rounds; i++)
         ratios[i] = card[i] / by_hand[i];
     return sort_to_median(ratios, rounds);
 }
 
-/* The ratios come first, as printing sorts the times. */
-static void print_row(const struct measured *c, double times[CALLS][MOST_ROUNDS], size_t rounds)
+static void print_row(const struct measured *c, double times[CALLS][MOST_TIMES], size_t rounds)
 {
-    double ratios[CALLS];
-
-    for (size_t k = 1; k < CALLS; k++)
-        ratios[k] = median_ratio(times[0], times[k], rounds);
     printf("%-30s %6zu", c->what, c->count * c->turns);
-    print_times(times[0], rounds);
-    for (size_t k = 1; k < CALLS && c->layer->calls[k]; k++) {
+    for (size_t k = 0; k < CALLS && c->layer->calls[k]; k++) {
         print_times(times[k], rounds);
-        printf(" %6.2f", ratios[k]);
+        if (k > 0)
+            printf(" %6.2f", median_ratio(times[0], times[k], rounds));
     }
     printf("\n");
     fflush(stdout);
@@ -170,7 +163,7 @@ static void check_case(const struct measured *c, inputs *in)
 static void measure(const struct measured *c, size_t rounds)
 {
     static inputs in;
-    static double times[CALLS][MOST_ROUNDS];
+    static double times[CALLS][MOST_TIMES];
 
     check_case(c, &in);
     for (size_t round = 0; round < rounds; round++)
@@ -188,7 +181,7 @@ static size_t argument(const char *given, size_t otherwise, size_t least, size_t
 
 int main(int argc, char **argv)
 {
-    size_t rounds = argument(argc > 1 ? argv[1] : NULL, ROUNDS, 1, MOST_ROUNDS);
+    size_t rounds = argument(argc > 1 ? argv[1] : NULL, ROUNDS, 1, MOST_TIMES);
     size_t first = argument(argc > 2 ? argv[2] : NULL, 0, 0, CASES - 1), end = argc > 2 ? first + 1 : CASES;
 
     printf("ns a call, medians of %zu rounds of so many calls, with half the distance of their quartiles;\n", rounds);

@@ -3,6 +3,7 @@
 
 #include <stdio.h>
 #include <stdlib.h>
+#include <string.h>
 
 double ns_between(struct timespec start, struct timespec end)
 {
@@ -22,9 +23,11 @@ double sort_to_median(double *numbers, size_t count)
     return numbers[count / 2];
 }
 
-void print_times(double *times, size_t count)
+void print_times(const double *times, size_t count)
 {
-    double median = sort_to_median(times, count);
+    double sorted[MOST_TIMES], median;
 
-    printf(" %10.1f %4.1f%%", median, 50 * (times[count * 3 / 4] - times[count / 4]) / median);
+    memcpy(sorted, times, count * sizeof *times);
+    median = sort_to_median(sorted, count);
+    printf(" %10.1f %4.1f%%", median, 50 * (sorted[count * 3 / 4] - sorted[count / 4]) / median);
 }

@@ -16,13 +16,12 @@
 #include "spread.h"
 
 #define MOST_PROGRAMS 16
-#define MOST_RUNS 1000
 
 extern char **environ;
 
 static struct timed {
     char **words; /* NAME INPUT PROGRAM ARGUMENT... and NULL */
-    double times[MOST_RUNS];
+    double times[MOST_TIMES];
 } programs[MOST_PROGRAMS];
 
 static void fail(const char *name, const char *what)
@@ -77,7 +76,7 @@ static size_t find_programs(int argc, char **argv)
     return count;
 }
 
-static void print_row(struct timed *p, size_t runs)
+static void print_row(const struct timed *p, size_t runs)
 {
     printf("%-46s", p->words[0]);
     print_times(p->times, runs);
@@ -88,7 +87,7 @@ int main(int argc, char **argv)
 {
     size_t runs = argc > 1 ? strtoul(argv[1], NULL, 10) : 0, count = find_programs(argc, argv);
 
-    if (runs == 0 || runs > MOST_RUNS)
+    if (runs == 0 || runs > MOST_TIMES)
         fail("time_program", "takes 1 to 1000 runs");
     for (size_t i = 0; i < runs * count; i++)
         programs[i % count].times[i / count] = run_program(&programs[i % count]);
