@@ -7,6 +7,9 @@ CARD = target/staticlib/libwsprcard.a
 # The C programs of tests/c. What each is to print stands beside it, in tests/c/NAME.stdout.
 INTERFACE = messages frames repair telemetry
 
+# The files of the benchmark: the calls by hand in C, and what measures them beside the library's.
+BENCH = bench calls inputs spread symbols message frame search telemetry
+
 .PHONY: all run test bench library program clean
 
 # The host program, build/wsprcard, over the library.
@@ -14,16 +17,18 @@ all: build/wsprcard
 
 # The outside tests, then the gate, whose last line is 'N passed, 0 failed'. The benchmark is built, so that it keeps up
 # with the header, and not run.
-test: build/wsprcard $(INTERFACE:%=build/%) build/bench_repair program
+test: build/wsprcard $(INTERFACE:%=build/%) build/bench build/time_program program
 	for name in $(INTERFACE); do \
 	    ./build/$$name > build/$$name.stdout && diff tests/c/$$name.stdout build/$$name.stdout || exit 1; \
 	done
 	cd tests && cargo test --release --offline
 	rt ci
 
-# Repair and searches written by hand in C, side by side in one run.
-bench: build/bench_repair
-	./build/bench_repair
+# The library and the same work by hand in C, side by side in one run; then whole runs of WSJT-X's programs, where it is
+# installed, and of the host's.
+bench: build/bench build/time_program
+	./build/bench
+	./bench/wsjtx
 
 # rt proves what has changed since the last time, and writes the library only where all is proved.
 library:
@@ -43,9 +48,13 @@ build/%: tests/c/%.c include/wsprcard.h $(CARD)
 	mkdir -p build
 	$(COMPILE) -o $@ $< $(CARD)
 
-build/bench_repair: bench/repair.c bench/search.c bench/search.h include/wsprcard.h $(CARD)
+build/bench: $(BENCH:%=bench/%.c) $(wildcard bench/*.h) include/wsprcard.h $(CARD)
 	mkdir -p build
-	$(COMPILE) -o $@ bench/repair.c bench/search.c $(CARD)
+	$(COMPILE) -o $@ $(BENCH:%=bench/%.c) $(CARD)
+
+build/time_program: bench/time_program.c bench/spread.c bench/spread.h
+	mkdir -p build
+	$(COMPILE) -o $@ bench/time_program.c bench/spread.c
 
 clean:
 	rm -rf target build tests/target

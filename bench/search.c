@@ -1,42 +1,14 @@
 /* Two searches written by hand in C, without proofs: the same tree, the same answers and refusals as wspr_repair. The
  * plain one goes down the tree by recursion; the tuned one has few branches that are hard to predict. */
-#include "search.h"
+#include "by_hand.h"
+#include "symbols.h"
 
-#include <string.h>
-
-#define SYMBOLS 162
-#define CLOCKED 81
-#define WORD_BITS 50
 #define LARGEST_LIMIT 12
 #define LARGEST_BUDGET 65536
-
-#define FIRST_MASK UINT32_C(0xf2d05351)
-#define SECOND_MASK UINT32_C(0xe4613c47)
-
-#define EACH_BYTE UINT64_C(0x0101010101010101)
 
 /* What a clocked 1 adds to the coded bits of the 31 steps after it, two bits a step from the lowest on: the masks
  * F2D05351 and E4613C47 from their bit 1 on, interleaved, with the first mask's bits above the second's. */
 #define ADDED UINT64_C(0x3f862d8049d68c85)
-
-/* Where the coded bits stand in a frame. */
-static const uint8_t places[SYMBOLS] = {
-    0, 128, 64, 32, 160, 96, 16, 144, 80, 48, 112, 8, 136, 72, 40, 104, 24, 152, 88, 56, 120, 4, 132, 68,
-    36, 100, 20, 148, 84, 52, 116, 12, 140, 76, 44, 108, 28, 156, 92, 60, 124, 2, 130, 66, 34, 98, 18, 146,
-    82, 50, 114, 10, 138, 74, 42, 106, 26, 154, 90, 58, 122, 6, 134, 70, 38, 102, 22, 150, 86, 54, 118, 14,
-    142, 78, 46, 110, 30, 158, 94, 62, 126, 1, 129, 65, 33, 161, 97, 17, 145, 81, 49, 113, 9, 137, 73, 41,
-    105, 25, 153, 89, 57, 121, 5, 133, 69, 37, 101, 21, 149, 85, 53, 117, 13, 141, 77, 45, 109, 29, 157,
-    93, 61, 125, 3, 131, 67, 35, 99, 19, 147, 83, 51, 115, 11, 139, 75, 43, 107, 27, 155, 91, 59, 123, 7,
-    135, 71, 39, 103, 23, 151, 87, 55, 119, 15, 143, 79, 47, 111, 31, 159, 95, 63, 127,
-};
-
-static const uint8_t sync_bits[SYMBOLS] = {
-    1, 1, 0, 0, 0, 0, 0, 0, 1, 0, 0, 0, 1, 1, 1, 0, 0, 0, 1, 0, 0, 1, 0, 1, 1, 1, 1, 0, 0, 0, 0, 0, 0, 0,
-    1, 0, 0, 1, 0, 1, 0, 0, 0, 0, 0, 0, 1, 0, 1, 1, 0, 0, 1, 1, 0, 1, 0, 0, 0, 1, 1, 0, 1, 0, 0, 0, 0, 1,
-    1, 0, 1, 0, 1, 0, 1, 0, 1, 0, 0, 1, 0, 0, 1, 0, 1, 1, 0, 0, 0, 1, 1, 0, 1, 0, 1, 0, 0, 0, 1, 0, 0, 0,
-    0, 0, 1, 0, 0, 1, 0, 0, 1, 1, 1, 0, 1, 1, 0, 0, 1, 1, 0, 1, 0, 0, 0, 1, 1, 1, 0, 0, 0, 0, 0, 1, 0, 1,
-    0, 0, 1, 1, 0, 0, 0, 0, 0, 0, 0, 1, 1, 0, 1, 0, 1, 1, 0, 0, 0, 1, 1, 0, 0, 0,
-};
 
 /* A prefix of a word: its bits, the newest lowest; the coded bits to come if only zeros follow, two a step from the
  * lowest on; how many bits it has; and how many more disagreements it may have. Below 0 it isn't live. */
@@ -55,40 +27,16 @@ typedef struct {
 
 typedef uint32_t search(task *t);
 
-static uint64_t eight(const uint8_t *symbols)
-{
-    uint64_t bytes;
-
-    memcpy(&bytes, symbols, sizeof bytes);
-    return bytes;
-}
-
-/* The first symbol above 3, or SYMBOLS. The last eight overlap the others. */
-static uint32_t first_above_3(const uint8_t *frame)
-{
-    uint64_t all = eight(frame + SYMBOLS - 8);
-    uint32_t place = 0;
-
-    for (size_t i = 0; i + 8 <= SYMBOLS; i += 8)
-        all |= eight(frame + i);
-    if (!(all & ~(3 * EACH_BYTE)))
-        return SYMBOLS;
-    while (frame[place] <= 3)
-        place++;
-    return place;
-}
-
-/* A byte of the sum counts up to 20, and all of them together are below 256. */
+/* A byte of the sum counts up to 20, and all of them together are below 256. Two symbols are left over. */
 static uint32_t count_sync_wrong(const uint8_t *frame)
 {
     uint64_t wrong = 0;
-    size_t i;
 
-    for (i = 0; i + 8 <= SYMBOLS; i += 8)
+    for (size_t i = 0; i + 8 <= SYMBOLS; i += 8)
         wrong += (eight(frame + i) ^ eight(sync_bits + i)) & EACH_BYTE;
     wrong = wrong * EACH_BYTE >> 56;
-    for (; i < SYMBOLS; i++)
-        wrong += (frame[i] ^ sync_bits[i]) & 1;
+    wrong += (frame[SYMBOLS - 2] ^ sync_bits[SYMBOLS - 2]) & 1u;
+    wrong += (frame[SYMBOLS - 1] ^ sync_bits[SYMBOLS - 1]) & 1u;
     return (uint32_t)wrong;
 }
 
@@ -143,7 +91,7 @@ static uint32_t search_tuned(task *t)
             extend(&now, &stack[waiting], received[now.length]);
             if (now.left < 0)
                 break;
-            live += 1 + (stack[waiting].left >= 0);
+            live += 1u + (stack[waiting].left >= 0);
             waiting += stack[waiting].left >= 0;
             if (live > budget)
                 return 16;
