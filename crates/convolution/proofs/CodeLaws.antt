@@ -1,7 +1,7 @@
 -- Laws of the convolutional code: the clocked bits, the two registers, and parity under a mask whose lowest bit is 1.
 use mathlib.Core.Path.{_≡_, refl, ap, _∙_}
 use Prim.Native.Nat.{ℕ, zero, suc, _+_, _-_, _*_, _/_, _%_, _^_, _≤_, _<_, min}
-use native.Mathlib.Nat.{mod-lt, pow-succ'}
+use native.Mathlib.Nat.{mod-lt}
 use native.Mathlib.Omega.{arith}
 use mathlib.Core.List.{List, [], _∷_, _++_}
 use lib.Bits.{bitAnd, bitOr, and-step, or-shifted}
@@ -10,15 +10,13 @@ use lib.ListN.{length, getD, replicate, length-append, length-replicate, getD-re
 use lib.Seq.{getD-append-add}
 use Rattle.basics.proofs.Choice.{below-or-not}
 use Rattle.radix.specs.Numeral.{Digits, Positive, count, numberOf, digitsOf}
-use Rattle.radix.proofs.Laws.{digits-length, digits-in-range, numberOf-digitsOf}
+use Rattle.radix.proofs.Laws.{digits-length, count-same, digits-in-range, numberOf-digitsOf}
 use Rattle.convolution.specs.Code.{bitsOf, clockedBits, clocked, firstMask, secondMask, parity, codedFrom, codedBits}
 
 -- ---- The bits of a word
 
 pub count-bits : (n : ℕ) → count (replicate n 2) ≡ 2 ^ n
-unfolding count
-count-bits zero = refl
-count-bits (suc n) = rw (count-bits n, pow-succ' 2 n)
+count-bits n = count-same n 2
 
 pub positive-bits : (n : ℕ) → Positive (replicate n 2)
 unfolding Positive

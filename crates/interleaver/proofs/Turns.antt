@@ -17,13 +17,12 @@ use Rattle.interleaver.proofs.PlaceLaws.{length-places, placeOf-below, 
 
 -- Before a turn: the places of the addresses so far are written, and the others are those of the addresses from here on.
 pub record Placing (now : List ℕ) (counter address : ℕ) : Type 0 where
-  pub within : address ≤ 256
   pub filled : Filling places now counter
   pub rest : drop counter places ≡ placesFrom (256 - address) address
 
 pub placing-starts : Placing (replicate 162 0) 0 0
 unfolding places
-placing-starts = record { within = omega arith; filled = fill-starts places (replicate 162 0) (sym length-places); rest = refl }
+placing-starts = record { filled = fill-starts places (replicate 162 0) (sym length-places); rest = refl }
 
 module _ (now : List ℕ) (counter address : ℕ) (before : address < 256) (turn : Placing now counter address) where
   pub placing-counter : counter ≤ 162
@@ -49,13 +48,12 @@ module _ (now : List ℕ) (counter address : ℕ) (before : address < 256) (turn
     pub placing-placed : place < 162 → Placing (set now counter place) (counter + 1) (address + 1)
     placing-placed h =
         record {
-          within = omega arith;
           filled = fill-turn places now counter place (rest-within counter places (here h)) (sym (rest-head counter places (here h))) (turn .filled);
           rest = rest-tail counter places (here h);
         }
 
     pub placing-passed : 162 ≤ place → Placing now counter (address + 1)
-    placing-passed h = record { within = omega arith; filled = turn .filled; rest = not-here h }
+    placing-passed h = record { filled = turn .filled; rest = not-here h }
 
 pub placing-ends : (now : List ℕ) (counter address : ℕ) → 256 ≤ address → Placing now counter address → now ≡ places
 unfolding placesFrom

@@ -14,7 +14,7 @@ fn reversed(address: u8) -> u8
     ((pairs & 0x55) << 1) | ((pairs >> 1) & 0x55)
 }
 
-// The counter after an address whose reversed address this is: it moves only when a bit is placed.
+// The counter after an address, given that address reversed: it moves only when a bit is placed.
 fn moved(counter: usize, place: u8) -> usize
     requires { ⌜ counter < 256 ⌝ }
     ensures { λ r. ⌜ r ≡ cond (ltb place 162) (counter + 1) counter ⌝ }

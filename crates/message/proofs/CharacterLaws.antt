@@ -201,20 +201,14 @@ digit-below place (d ∷ ds) (suc i) h k =
 
 -- ---- Digits at places as digits in radices
 
--- The sizes of the sets of as many places as there are digits.
-unfoldable pub sizesFrom : ℕ → List ℕ → List ℕ
-sizesFrom place [] = []
-sizesFrom place (d ∷ ds) = setAt place .size ∷ sizesFrom (suc place) ds
+-- The sizes of the sets of n places.
+unfoldable pub sizesFrom : ℕ → ℕ → List ℕ
+sizesFrom place zero = []
+sizesFrom place (suc n) = setAt place .size ∷ sizesFrom (suc place) n
 
-pub digits-in-sizes : (place : ℕ) (ds : List ℕ) → DigitsAt place ds → Digits (sizesFrom place ds) ds
+pub digits-in-sizes : (place n : ℕ) (ds : List ℕ) → length ds ≡ n → DigitsAt place ds → Digits (sizesFrom place n) ds
 unfolding Digits DigitsAt sizesFrom
-digits-in-sizes place [] h = tt
-digits-in-sizes place (d ∷ ds) h = (h .0, digits-in-sizes (suc place) ds (h .1))
-
--- Only the count of digits matters.
-pub sizes-by-length : (place : ℕ) (ds es : List ℕ) → length ds ≡ length es → sizesFrom place ds ≡ sizesFrom place es
-unfolding sizesFrom
-sizes-by-length place [] [] h = refl
-sizes-by-length place [] (e ∷ es) h = absurd (omega arith)
-sizes-by-length place (d ∷ ds) [] h = absurd (omega arith)
-sizes-by-length place (d ∷ ds) (e ∷ es) h = ap (λ (ss : List ℕ). setAt place .size ∷ ss) (sizes-by-length (suc place) ds es (omega arith))
+digits-in-sizes place zero [] e h = tt
+digits-in-sizes place zero (d ∷ ds) e h = absurd (omega arith)
+digits-in-sizes place (suc n) [] e h = absurd (omega arith)
+digits-in-sizes place (suc n) (d ∷ ds) e h = (h .0, digits-in-sizes (suc place) n ds (omega arith) (h .1))

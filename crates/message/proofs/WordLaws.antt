@@ -1,15 +1,17 @@
 -- Laws of the word: the callsign's and the locator's numbers and their characters are inverse to each other, and the word's parts
 -- are those that it was made from.
-use mathlib.Core.Path.{_≡_, refl, sym, _∙_, subst}
+use mathlib.Core.Path.{_≡_, refl, sym, _∙_}
 use Prim.Native.Nat.{ℕ, _+_, _-_, _^_, _≤_, _<_}
 use native.Mathlib.Omega.{arith}
 use mathlib.Core.List.{List, [], _∷_}
 use lib.ListN.{length, getD}
+use Rattle.basics.specs.Lists.{tabulate}
+use Rattle.basics.proofs.ListLaws.{by-places}
 use Rattle.radix.specs.Numeral.{Digits, Positive, count, numberFrom, numberOf, digitsOf}
 use Rattle.radix.proofs.Laws.{number-below, digits-in-range, digitsOf-numberOf, numberOf-digitsOf}
 use Rattle.message.specs.Character.{setAt, callsignSets, locatorSets, DigitsAt, digitsFrom}
 use Rattle.message.specs.Word.{callsignRadices, callsignNumber, locatorNumberFrom, locatorNumber, lowerNumber, wordFrom, callsignPart, locatorPart, powerPart, locatorRadices, locatorValues, callsignWithNumber, locatorWithNumber}
-use Rattle.message.proofs.CharacterLaws.{AllLegal, sizesFrom, digits-of-legal, characters-of-digits, legal-of-digits, digits-of-characters, digits-in-sizes, sizes-by-length, length-digitsFrom, length-charactersFrom}
+use Rattle.message.proofs.CharacterLaws.{AllLegal, sizesFrom, digits-of-legal, characters-of-digits, legal-of-digits, digits-of-characters, digits-in-sizes, digit-below, length-digitsFrom, length-charactersFrom}
 
 -- ---- The callsign's number
 
@@ -24,15 +26,12 @@ callsign-count = refl
 pub callsign-digits : (callsign : List ℕ) → length callsign ≡ 6 → AllLegal 0 callsign → Digits callsignRadices (digitsFrom 0 callsign)
 unfolding sizesFrom setAt callsignSets locatorSets callsignRadices
 callsign-digits callsign six legal =
-    let ds = digitsFrom 0 callsign in
-    subst (λ (rs : List ℕ). Digits rs ds)
-    (sizes-by-length 0 ds (0 ∷ 0 ∷ 0 ∷ 0 ∷ 0 ∷ 0 ∷ []) (length-digitsFrom 0 callsign ∙ six))
-    (digits-in-sizes 0 ds (digits-of-legal 0 callsign legal))
+    digits-in-sizes 0 6 (digitsFrom 0 callsign) (length-digitsFrom 0 callsign ∙ six) (digits-of-legal 0 callsign legal)
 
 pub callsignNumber-below : (callsign : List ℕ) → length callsign ≡ 6 → AllLegal 0 callsign → callsignNumber callsign < 262_177_560
 unfolding callsignNumber
 callsignNumber-below callsign six legal =
-    subst (λ (n : ℕ). callsignNumber callsign < n) callsign-count (number-below callsignRadices _ (callsign-digits callsign six legal))
+    rw (← callsign-count) (number-below callsignRadices _ (callsign-digits callsign six legal))
 
 pub callsignWithNumber-callsignNumber : (callsign : List ℕ) → length callsign ≡ 6 → AllLegal 0 callsign → callsignWithNumber (callsignNumber callsign) ≡ callsign
 unfolding callsignWithNumber callsignNumber
@@ -56,7 +55,7 @@ pub callsignNumber-callsignWithNumber : (n : ℕ) → n < 262_177_560 → callsi
 unfolding callsignWithNumber callsignNumber
 callsignNumber-callsignWithNumber n h =
     rw (digits-of-characters 0 (digitsOf callsignRadices n) (callsign-digits-at n))
-    (numberOf-digitsOf callsignRadices callsign-positive (subst (λ (m : ℕ). n < m) (sym callsign-count) h))
+    (numberOf-digitsOf callsignRadices callsign-positive (rw callsign-count h))
 
 -- ---- The locator's number
 
@@ -81,28 +80,30 @@ pub record InSets (vs : List ℕ) : Type 0 where
   pub all : vs ≡ getD vs 0 0 ∷ getD vs 1 0 ∷ getD vs 2 0 ∷ getD vs 3 0 ∷ []
 
 in-sets : (vs : List ℕ) → length vs ≡ 4 → DigitsAt 6 vs → InSets vs
-unfolding DigitsAt setAt callsignSets locatorSets
-in-sets [] h k = absurd (omega arith)
-in-sets (a ∷ []) h k = absurd (omega arith)
-in-sets (a ∷ b ∷ []) h k = absurd (omega arith)
-in-sets (a ∷ b ∷ c ∷ []) h k = absurd (omega arith)
-in-sets (a ∷ b ∷ c ∷ d ∷ []) h k = record { a = k .0; b = k .1 .0; c = k .1 .1 .0; d = k .1 .1 .1 .0; all = refl }
-in-sets (a ∷ b ∷ c ∷ d ∷ e ∷ vs) h k = absurd (omega arith)
+unfolding tabulate setAt callsignSets locatorSets
+in-sets vs four ds =
+    record {
+      a = digit-below 6 vs 0 ds (omega arith);
+      b = digit-below 6 vs 1 ds (omega arith);
+      c = digit-below 6 vs 2 ds (omega arith);
+      d = digit-below 6 vs 3 ds (omega arith);
+      all = by-places 4 vs four;
+    }
 
-pub locator-values : (locator : List ℕ) → length locator ≡ 4 → AllLegal 6 locator → InSets (digitsFrom 6 locator)
-locator-values locator four legal =
+pub locator-in-sets : (locator : List ℕ) → length locator ≡ 4 → AllLegal 6 locator → InSets (digitsFrom 6 locator)
+locator-in-sets locator four legal =
     in-sets (digitsFrom 6 locator) (length-digitsFrom 6 locator ∙ four) (digits-of-legal 6 locator legal)
 
-pub locator-digits : (vs : List ℕ) → InSets vs → Digits locatorRadices (locatorDigits vs)
+pub locatorDigits-in-range : (vs : List ℕ) → InSets vs → Digits locatorRadices (locatorDigits vs)
 unfolding Digits locatorRadices
-locator-digits vs v = omega arith
+locatorDigits-in-range vs v = omega arith
 
 -- 01's formula is the number of those digits.
 pub locatorNumber-digits : (locator : List ℕ) → length locator ≡ 4 → AllLegal 6 locator
     → locatorNumber locator ≡ numberOf locatorRadices (locatorDigits (digitsFrom 6 locator))
 unfolding locatorNumber locatorNumberFrom numberOf numberFrom locatorRadices
 locatorNumber-digits locator four legal =
-    let v = locator-values locator four legal in
+    let v = locator-in-sets locator four legal in
     omega arith
 
 pub locatorNumber-below : (locator : List ℕ) → length locator ≡ 4 → AllLegal 6 locator → locatorNumber locator < 32_400
@@ -112,7 +113,7 @@ locatorNumber-below locator four legal =
       arith,
       locatorNumber-digits locator four legal,
       locator-count,
-      number-below locatorRadices (locatorDigits vs) (locator-digits vs (locator-values locator four legal)),
+      number-below locatorRadices (locatorDigits vs) (locatorDigits-in-range vs (locator-in-sets locator four legal)),
     )
 
 locatorValues-locatorDigits : (vs : List ℕ) → InSets vs → locatorValues (locatorDigits vs) ≡ vs
@@ -126,14 +127,14 @@ pub locatorWithNumber-locatorNumber : (locator : List ℕ) → length locator �
 unfolding locatorWithNumber
 locatorWithNumber-locatorNumber locator four legal =
     let vs = digitsFrom 6 locator in
-    let v = locator-values locator four legal in
-    rw (locatorNumber-digits locator four legal, digitsOf-numberOf locatorRadices (locatorDigits vs) (locator-digits vs v), locatorValues-locatorDigits vs v)
+    let v = locator-in-sets locator four legal in
+    rw (locatorNumber-digits locator four legal, digitsOf-numberOf locatorRadices (locatorDigits vs) (locatorDigits-in-range vs v), locatorValues-locatorDigits vs v)
     (characters-of-digits 6 locator legal)
 
 -- The values of a number are in their places' sets.
-pub locator-values-at : (n : ℕ) → DigitsAt 6 (locatorValues (digitsOf locatorRadices n))
+pub locatorValues-at : (n : ℕ) → DigitsAt 6 (locatorValues (digitsOf locatorRadices n))
 unfolding Digits DigitsAt digitsOf locatorValues setAt callsignSets locatorSets locatorRadices
-locator-values-at n =
+locatorValues-at n =
     let ds = digits-in-range locatorRadices n locator-positive in
     omega arith
 
@@ -143,7 +144,7 @@ locatorWithNumber-length n = length-charactersFrom 6 (locatorValues (digitsOf lo
 
 pub locatorWithNumber-legal : (n : ℕ) → AllLegal 6 (locatorWithNumber n)
 unfolding locatorWithNumber
-locatorWithNumber-legal n = legal-of-digits 6 (locatorValues (digitsOf locatorRadices n)) (locator-values-at n)
+locatorWithNumber-legal n = legal-of-digits 6 (locatorValues (digitsOf locatorRadices n)) (locatorValues-at n)
 
 complement-twice : (x y b d : ℕ) → x < 18 → y < 10 → locatorDigits (locatorValues (x ∷ y ∷ b ∷ d ∷ [])) ≡ x ∷ y ∷ b ∷ d ∷ []
 unfolding locatorValues
@@ -163,8 +164,8 @@ unfolding locatorWithNumber
 locatorNumber-locatorWithNumber n h =
     let vs = locatorValues (digitsOf locatorRadices n) in
     locatorNumber-digits (locatorWithNumber n) (locatorWithNumber-length n) (locatorWithNumber-legal n)
-    ∙ rw (digits-of-characters 6 vs (locator-values-at n), locatorDigits-locatorValues n)
-    (numberOf-digitsOf locatorRadices locator-positive (subst (λ (m : ℕ). n < m) (sym locator-count) h))
+    ∙ rw (digits-of-characters 6 vs (locatorValues-at n), locatorDigits-locatorValues n)
+    (numberOf-digitsOf locatorRadices locator-positive (rw locator-count h))
 
 -- ---- The word's parts
 

@@ -45,6 +45,7 @@ fn lowest_at(place: usize) -> u64
     0
 }
 
+// The size of a place's set.
 fn size_at(place: usize) -> u64
     requires { ⌜ place < 10 ⌝ }
     ensures { λ r. ⌜ r ≡ setAt place .size ⌝ }
@@ -67,6 +68,7 @@ fn size_at(place: usize) -> u64
     10
 }
 
+// The byte is a character of its place's set.
 fn is_legal_at(place: usize, byte: u8) -> bool
     requires { ⌜ place < 10 ⌝ }
     ensures { λ r. ⌜ r ≡ legalAt place byte ⌝ }

@@ -1,11 +1,11 @@
 -- The laws of mixed-radix numerals: the bound, digits in range, the two inverses, injectivity, a number that is
 -- written in one list of radices and read in another, and what is left above the highest digit.
 use mathlib.Core.Path.{_≡_, refl, sym, ap, _∙_, subst}
-use Prim.Native.Nat.{ℕ, suc, _+_, _*_, _/_, _%_, _<_}
-use native.Mathlib.Nat.{add-assoc, add-mul, mul-assoc, one-mul, zero-mul, zero-add, mul-pos, mod-lt, mod-eq-of-lt, mul-add-div-right, mul-add-mod-self-right, div-lt-iff-lt-mul, div-eq-of-lt}
+use Prim.Native.Nat.{ℕ, zero, suc, _+_, _*_, _/_, _%_, _^_, _<_}
+use native.Mathlib.Nat.{add-assoc, add-mul, mul-assoc, one-mul, zero-mul, zero-add, mul-pos, mod-lt, mod-eq-of-lt, mul-add-div-right, mul-add-mod-self-right, div-lt-iff-lt-mul, div-eq-of-lt, pow-zero, pow-succ'}
 use native.Mathlib.Omega.{arith}
 use mathlib.Core.List.{List, [], _∷_}
-use lib.ListN.{length}
+use lib.ListN.{length, replicate}
 use lib.Arith.{digits-lt, digits-div, mod-mul}
 use mathlib.Core.Logic.{_↔_}
 use Rattle.radix.specs.Numeral.{Digits, Positive, count, numberFrom, numberOf, digitsOf}
@@ -31,6 +31,12 @@ pub count-positive : (rs : List ℕ) → Positive rs → 0 < count rs
 unfolding Positive count
 count-positive [] h = omega arith
 count-positive (r ∷ rs) h = mul-pos (h .0) (count-positive rs (h .1))
+
+-- Of one radix, n times.
+pub count-same : (n r : ℕ) → count (replicate n r) ≡ r ^ n
+unfolding count
+count-same zero r = sym (pow-zero r)
+count-same (suc n) r = rw (count-same n r, pow-succ' r n)
 
 -- ---- What the digits write
 

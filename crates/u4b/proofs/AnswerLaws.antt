@@ -6,17 +6,15 @@ use native.Mathlib.Omega.{arith}
 use mathlib.Core.Bool.{true}
 use mathlib.Core.List.{List}
 use lib.Dec.{ltb}
-use lib.ListN.{length}
 use borrow.Author.Tests.{lt-ltb, le-ltb, ltb-false}
 use Rattle.basics.proofs.Choice.{cond-passed, cond-both}
-use Rattle.basics.proofs.ListLaws.{all-pass, none-fails}
 use Rattle.refusal.specs.declared.Refusal.{Refusal}
 use Rattle.refusal.specs.Refusals.{refusal, notTelemetry}
 use Rattle.message.specs.Answer.{checked}
 use Rattle.message.specs.declared.Checked.{Checked}
 use Rattle.message.proofs.AnswerLaws.{Legal, right-lengths, legal-whole, checked-legal, legal-of-checked, checked-nonzero}
 use Rattle.u4b.specs.Channel.{isFirstCharacter, isThirdCharacter}
-use Rattle.u4b.specs.Characters.{callsignWith, locatorWith, powerWith, telemetryAt, firstNotTelemetry}
+use Rattle.u4b.specs.Characters.{callsignWith, locatorWith, powerWith, firstNotTelemetry}
 use Rattle.u4b.specs.Answer.{numbersOf, messageCarried, ifLegal, carried}
 use Rattle.u4b.specs.declared.Numbers.{Numbers}
 use Rattle.u4b.specs.declared.Carried.{Carried}
@@ -43,11 +41,6 @@ module _ (callsign locator : List ℕ) (power : ℕ) where
     pub carried-numbers : 6 ≤ firstNotTelemetry callsign → carried callsign locator power ≡ Carried.Numbers (numbersOf callsign locator power)
     unfolding messageCarried
     carried-numbers h = carried-message ∙ rw (le-ltb _ 6 h)
-
--- A callsign has six characters, so that a first place past them says that there is none.
-pub all-telemetry : (callsign : List ℕ) → length callsign ≡ 6 → 6 ≤ firstNotTelemetry callsign → firstNotTelemetry callsign ≡ 6
-unfolding firstNotTelemetry
-all-telemetry callsign six h = omega (arith, none-fails telemetryAt 0 callsign (all-pass telemetryAt 0 callsign (omega arith)))
 
 -- ---- What was written is read
 
@@ -86,7 +79,7 @@ carries : (callsign locator : List ℕ) (power : ℕ) (n : Numbers) → Legal ca
 unfolding messageCarried numbersOf
 carries callsign locator power n l e =
     let tests = cond-passed (ltb (firstNotTelemetry callsign) 6) e (refused-no-numbers _ n) in
-    let telemetry = all-telemetry callsign (l .six) (ltb-false _ _ (tests .0)) in
+    let telemetry = ltb-false _ _ (tests .0) in
     let same : n ≡ numbersOf callsign locator power = cc in
     rw same (record {
       is-first = first-of callsign (l .six) (l .callsign-legal) telemetry;

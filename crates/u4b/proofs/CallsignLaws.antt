@@ -9,7 +9,7 @@ use lib.ListN.{length, getD}
 use borrow.Author.Tests.{eqb-true, eq-eqb, ne-eqb}
 use Rattle.basics.specs.Lists.{tabulate}
 use Rattle.basics.proofs.Choice.{by-test, equal-or-not, between-true, between-range}
-use Rattle.basics.proofs.ListLaws.{AllPass, all-pass, none-fails, by-rule}
+use Rattle.basics.proofs.ListLaws.{AllPass, all-pass, none-fails, by-places}
 use Rattle.radix.specs.Numeral.{Digits, Positive, count, digitsOf}
 use Rattle.radix.proofs.Laws.{digits-in-range, digitsOf-numberOf, numberOf-digitsOf}
 use Rattle.message.specs.Character.{value, character, setAt, callsignSets, locatorSets, legalAt, digitAt, characterAt, overPlaces, digitsFrom, charactersFrom, DigitsAt}
@@ -90,7 +90,7 @@ module _ (first third : ℕ) (is-first : isFirstCharacter first ≡ true) (is-th
   pub upperOf-callsignWith : (a : ℕ) → a < 632_736 → upperOf (callsignWith first third a) ≡ a
   unfolding upperOf digitsOf upperRadices
   upperOf-callsignWith a h =
-      rw (callsignWith-characters a, digits-of-characters 0 _ (six-digits-at a)) (numberOf-digitsOf upperRadices upper-positive (subst (λ (n : ℕ). a < n) (sym upper-count) h))
+      rw (callsignWith-characters a, digits-of-characters 0 _ (six-digits-at a)) (numberOf-digitsOf upperRadices upper-positive (rw upper-count h))
 
   -- Every character in it may stand at its place.
   telemetry-characters : (a : ℕ) → AllPass telemetryAt 0 (callsignWith first third a)
@@ -159,9 +159,9 @@ module _ (callsign : List ℕ) (six : length callsign ≡ 6) where
   its-characters : callsign
       ≡ getD callsign 0 0 ∷ getD callsign 1 0 ∷ getD callsign 2 0 ∷ getD callsign 3 0 ∷ getD callsign 4 0 ∷ getD callsign 5 0 ∷ []
   unfolding tabulate
-  its-characters = by-rule 6 (λ i. getD callsign i 0) callsign six (λ i h. refl)
+  its-characters = by-places 6 callsign six
 
-  module _ (legal : AllLegal 0 callsign) (telemetry : firstNotTelemetry callsign ≡ 6) where
+  module _ (legal : AllLegal 0 callsign) (telemetry : 6 ≤ firstNotTelemetry callsign) where
     all-telemetry : AllPass telemetryAt 0 callsign
     unfolding firstNotTelemetry
     all-telemetry = all-pass telemetryAt 0 callsign (omega arith)

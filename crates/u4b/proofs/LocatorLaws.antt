@@ -1,18 +1,17 @@
 -- Laws of the locator and power: the lower number in them and back, both ways, and that what is written is legal.
-use mathlib.Core.Path.{_≡_, refl, sym, subst}
+use mathlib.Core.Path.{_≡_, refl}
 use Prim.Native.Nat.{ℕ, _<_}
 use native.Mathlib.Omega.{arith}
 use mathlib.Core.Bool.{true}
 use mathlib.Core.List.{List, [], _∷_}
 use lib.ListN.{length, getD}
-use Rattle.basics.specs.Lists.{tabulate}
-use Rattle.basics.proofs.ListLaws.{by-rule}
 use Rattle.radix.specs.Numeral.{Digits, Positive, count, digitsOf}
 use Rattle.radix.proofs.Laws.{digits-in-range, digitsOf-numberOf, numberOf-digitsOf}
 use Rattle.power.specs.Powers.{powerIndex, legalPower}
 use Rattle.power.proofs.Laws.{powerAt-powerIndex, powerIndex-powerAt, legal-index, legal-powerAt}
-use Rattle.message.specs.Character.{setAt, callsignSets, locatorSets, overPlaces, digitsFrom, DigitsAt}
-use Rattle.message.proofs.CharacterLaws.{AllLegal, digits-of-legal, characters-of-digits, legal-of-digits, digits-of-characters, length-charactersFrom}
+use Rattle.message.specs.Character.{setAt, callsignSets, locatorSets, digitsFrom, DigitsAt}
+use Rattle.message.proofs.CharacterLaws.{AllLegal, characters-of-digits, legal-of-digits, digits-of-characters, length-charactersFrom}
+use Rattle.message.proofs.WordLaws.{locator-in-sets}
 use Rattle.u4b.specs.Characters.{lowerRadices, locatorWith, powerWith, lowerOf}
 
 pub lower-positive : Positive lowerRadices
@@ -30,7 +29,7 @@ abbrev pub fourDigits : List ℕ → List ℕ
 fourDigits s = getD s 0 0 ∷ getD s 1 0 ∷ getD s 2 0 ∷ getD s 3 0 ∷ []
 
 -- The number's digits, from those at the four places and the power's index.
-abbrev pub fiveDigits : List ℕ → ℕ → List ℕ
+abbrev fiveDigits : List ℕ → ℕ → List ℕ
 fiveDigits d index = getD d 0 0 ∷ getD d 1 0 ∷ getD d 2 0 ∷ getD d 3 0 ∷ index ∷ []
 
 -- The four digits are in their places' sets, and the fifth is an index.
@@ -61,52 +60,26 @@ pub lowerOf-locatorWith : (b : ℕ) → b < 615_600 → lowerOf (locatorWith b) 
 unfolding locatorWith powerWith lowerOf digitsOf lowerRadices
 lowerOf-locatorWith b h =
     rw (digits-of-characters 6 _ (four-digits-at b), powerIndex-powerAt _ (index-below b))
-    (numberOf-digitsOf lowerRadices lower-positive (subst (λ (n : ℕ). b < n) (sym lower-count) h))
+    (numberOf-digitsOf lowerRadices lower-positive (rw lower-count h))
 
 -- ---- The number in a locator and power
 
-module _ (c0 c1 c2 c3 power : ℕ) where
-  abbrev locator : List ℕ
-  locator = c0 ∷ c1 ∷ c2 ∷ c3 ∷ []
-
-  module _ (legal : AllLegal 6 locator) (legal-power : legalPower power ≡ true) where
-    five-digits-in : Digits lowerRadices (fiveDigits (digitsFrom 6 locator) (powerIndex power))
-    unfolding Digits DigitsAt digitsFrom overPlaces setAt callsignSets locatorSets lowerRadices
-    five-digits-in =
-        let d = digits-of-legal 6 locator legal in
-        (d .0, (d .1 .0, (d .1 .1 .0, (d .1 .1 .1 .0, (legal-index power legal-power, tt)))))
-
-    its-digits : digitsOf lowerRadices (lowerOf locator power) ≡ fiveDigits (digitsFrom 6 locator) (powerIndex power)
-    unfolding lowerOf
-    its-digits = digitsOf-numberOf lowerRadices _ five-digits-in
-
-    locator-again : locatorWith (lowerOf locator power) ≡ locator
-    unfolding locatorWith digitsFrom overPlaces
-    locator-again = rw its-digits (characters-of-digits 6 locator legal)
-
-    power-again : powerWith (lowerOf locator power) ≡ power
-    unfolding powerWith
-    power-again = rw its-digits (powerAt-powerIndex power (legal-index power legal-power))
-
 module _ (locator : List ℕ) (power : ℕ) (four : length locator ≡ 4) (legal : AllLegal 6 locator) (legal-power : legalPower power ≡ true) where
-  -- A locator, character by character.
-  its-characters : locator ≡ getD locator 0 0 ∷ getD locator 1 0 ∷ getD locator 2 0 ∷ getD locator 3 0 ∷ []
-  unfolding tabulate
-  its-characters = by-rule 4 (λ i. getD locator i 0) locator four (λ i h. refl)
-
-  each-legal : AllLegal 6 (getD locator 0 0 ∷ getD locator 1 0 ∷ getD locator 2 0 ∷ getD locator 3 0 ∷ [])
-  each-legal = subst (AllLegal 6) its-characters legal
-
   pub lower-digits-in : Digits lowerRadices (fiveDigits (digitsFrom 6 locator) (powerIndex power))
+  unfolding Digits lowerRadices
   lower-digits-in =
-      subst (λ (l : List ℕ). Digits lowerRadices (fiveDigits (digitsFrom 6 l) (powerIndex power))) (sym its-characters)
-      (five-digits-in _ _ _ _ power each-legal legal-power)
+      let v = locator-in-sets locator four legal in
+      (v .a, (v .b, (v .c, (v .d, (legal-index power legal-power, tt)))))
+
+  its-digits : digitsOf lowerRadices (lowerOf locator power) ≡ fiveDigits (digitsFrom 6 locator) (powerIndex power)
+  unfolding lowerOf
+  its-digits = digitsOf-numberOf lowerRadices _ lower-digits-in
 
   -- The number makes the locator and the power again.
   pub locatorWith-lowerOf : locatorWith (lowerOf locator power) ≡ locator
-  locatorWith-lowerOf =
-      subst (λ (l : List ℕ). locatorWith (lowerOf l power) ≡ l) (sym its-characters) (locator-again _ _ _ _ power each-legal legal-power)
+  unfolding locatorWith
+  locatorWith-lowerOf = rw (its-digits, ← locator-in-sets locator four legal .all) (characters-of-digits 6 locator legal)
 
   pub powerWith-lowerOf : powerWith (lowerOf locator power) ≡ power
-  powerWith-lowerOf =
-      subst (λ (l : List ℕ). powerWith (lowerOf l power) ≡ power) (sym its-characters) (power-again _ _ _ _ power each-legal legal-power)
+  unfolding powerWith
+  powerWith-lowerOf = rw its-digits (powerAt-powerIndex power (legal-index power legal-power))

@@ -1,5 +1,6 @@
 // The channel and the upper number in a callsign.
 ghost use mathlib.Core.Path.{_≡_};
+ghost use Prim.Native.Nat.{_≤_};
 ghost use mathlib.Core.Bool.{true};
 ghost use lib.ListN.{length};
 ghost use Rattle.message.specs.Character.{firstBad};
@@ -62,7 +63,7 @@ pub(crate) fn first_not_telemetry(callsign: &[u8]) -> usize
 pub(crate) fn upper_of(callsign: &[u8]) -> u64
     requires { ⌜ length (now callsign) ≡ 6 ⌝ }
     requires { ⌜ firstBad 0 (now callsign) ≡ 6 ⌝ }
-    requires { ⌜ firstNotTelemetry (now callsign) ≡ 6 ⌝ }
+    requires { ⌜ 6 ≤ firstNotTelemetry (now callsign) ⌝ }
     ensures { λ r. ⌜ r ≡ upperOf (now (callsign .entry)) ⌝ }
 {
     let mut digits = [0u64; 6];

@@ -9,7 +9,7 @@ use Rattle.message.specs.Answer.{checked}
 use Rattle.message.specs.declared.Checked.{Checked}
 use Rattle.message.proofs.AnswerLaws.{Legal, legal-of-checked}
 use Rattle.u4b.specs.Answer.{numbersOf}
-use Rattle.u4b.proofs.AnswerLaws.{carried-refused, carried-not-telemetry, carried-numbers, all-telemetry}
+use Rattle.u4b.proofs.AnswerLaws.{carried-refused, carried-not-telemetry, carried-numbers}
 use Rattle.u4b.proofs.read.Statement.{statement}
 use Rattle.u4b.proofs.read.Tie as tie
 
@@ -65,7 +65,7 @@ upper-of-requires : tie.Need-upper-of-requires
 upper-of-requires c κs =
     let e = c .before .before in
     let l = its-legal (e .before .before) in
-    (l .six, (omega (arith, l .six, none-fails legalAt 0 _ (l .callsign-legal)), all-telemetry _ (l .six) (omega (arith, e .before .first-not-telemetry .ensures))))
+    (l .six, (omega (arith, l .six, none-fails legalAt 0 _ (l .callsign-legal)), omega (arith, e .before .first-not-telemetry .ensures)))
 
 lower-of-requires : tie.Need-lower-of-requires
 lower-of-requires c κs =

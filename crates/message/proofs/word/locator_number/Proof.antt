@@ -7,7 +7,7 @@ use mathlib.Core.List.{List}
 use Prim.Native.Nat.{ℕ}
 use Rattle.radix.specs.Numeral.{numberOf}
 use Rattle.message.specs.Word.{locatorRadices}
-use Rattle.message.proofs.WordLaws.{InSets, locatorDigits, locator-count, locator-values, locator-digits, locatorNumber-digits}
+use Rattle.message.proofs.WordLaws.{InSets, locatorDigits, locator-count, locator-in-sets, locatorDigits-in-range, locatorNumber-digits}
 use borrow.Author.Needs.{needs}
 use Rattle.message.proofs.word.locator_number.Statement.{statement}
 use Rattle.message.proofs.word.locator_number.Tie as tie
@@ -19,7 +19,7 @@ values-in-range : (c : tie.After-read-digits) → InSets (c .read-digits .last .
 values-in-range c =
     let a = c .before .before .before in
     let locator = a .args .locator .now in
-    rw (c .read-digits .ensures) (locator-values locator (a .pre .0) (all-pass legalAt 6 locator (omega arith)))
+    rw (c .read-digits .ensures) (locator-in-sets locator (a .pre .0) (all-pass legalAt 6 locator (omega arith)))
 
 slice-aggregate-read-digits : tie.Need-slice-aggregate-read-digits
 slice-aggregate-read-digits c = search needs
@@ -58,7 +58,7 @@ slice-aggregate-pack-2 c = search needs
 pack-requires : tie.Need-pack-requires
 unfolding locatorRadices
 pack-requires c κs =
-    (locator-digits _ (values-in-range (c .before .before .before)), omega (arith, locator-count))
+    (locatorDigits-in-range _ (values-in-range (c .before .before .before)), omega (arith, locator-count))
 
 returns : tie.Need-returns
 unfolding locatorRadices

@@ -10,7 +10,7 @@ use Rattle.radix.specs.Numeral.{Digits, digitsOf}
 use Rattle.radix.proofs.Laws.{digits-in-range}
 use Rattle.message.specs.Character.{charactersFrom}
 use Rattle.message.specs.Word.{locatorRadices, locatorValues, locatorPart, locatorWithNumber, locatorOf}
-use Rattle.message.proofs.WordLaws.{locator-positive, locator-values-at}
+use Rattle.message.proofs.WordLaws.{locator-positive, locatorValues-at}
 use borrow.Author.Needs.{needs}
 use Rattle.message.proofs.word.write_locator.Statement.{statement}
 use Rattle.message.proofs.word.write_locator.Tie as tie
@@ -70,7 +70,7 @@ unfolding locatorRadices locatorValues
 write-characters-requires c κs =
     let u = c .before .before .before in
     let a = u .before .before .before .before .before in
-    rw (its-digits u) (omega (arith, a .pre), (sym (a .pre), locator-values-at _))
+    rw (its-digits u) (omega (arith, a .pre), (sym (a .pre), locatorValues-at _))
 
 same-length : tie.Need-same-length
 same-length c = search needs
