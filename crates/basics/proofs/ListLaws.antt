@@ -197,6 +197,17 @@ module _ {A : Type 0} (test : ℕ → A → Bool) where
     unfolding firstFailing
     search-over h = rw (drop-of-length-le xs h)
 
+  -- The same where place and index are one: it stops at the first failing place, goes on, or finds none.
+  module _ (xs : List A) (i : ℕ) (now : Searching xs i) where
+    pub search-found : (d : A) → i < length xs → test i (getD xs i d) ≡ false → i ≡ firstFailing test 0 xs
+    search-found d h e = sym (search-failed xs i i d h e) ∙ now .1
+
+    pub search-next : (d : A) → i < length xs → test i (getD xs i d) ≡ true → Searching xs (i + 1)
+    search-next d h e = (omega arith, search-passed xs i i d h e ∙ now .1)
+
+    pub search-none : length xs ≤ i → i ≡ firstFailing test 0 xs
+    search-none h = sym (search-over xs i i h) ∙ now .1
+
 -- ---- The index of a number
 
 -- What stands at a number's index is the number.

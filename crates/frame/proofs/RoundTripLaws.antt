@@ -194,7 +194,7 @@ module _ (frame callsign locator : List ℕ) where
       × ((its-locator ≡ locatorRead frame callsign locator)
       × (MessageWritesBack answer frame its-callsign its-locator × MessageRefusedExactly answer frame callsign locator)))
 
-  pub read-message-promised : (answer : Given) (its-callsign its-locator : List ℕ) → answer ≡ messageRead frame callsign locator
+  read-message-promised : (answer : Given) (its-callsign its-locator : List ℕ) → answer ≡ messageRead frame callsign locator
       → its-callsign ≡ callsignRead frame callsign locator → its-locator ≡ locatorRead frame callsign locator
       → ReadMessagePromised answer its-callsign its-locator
   read-message-promised answer its-callsign its-locator e e₂ e₃ =

@@ -1,9 +1,8 @@
--- Laws of symbols: a frame's sync and data bits, and its coded bits back again.
+-- Laws of symbols: a frame's sync and data bits, its coded bits back again, and the count of wrong sync bits.
 use mathlib.Core.Path.{_≡_, refl, sym, ap, _∙_}
 use mathlib.Core.Logic.{_↔_}
 use Prim.Native.Nat.{ℕ, _+_, _*_, _/_, _%_, _^_, _≤_, _<_}
 use native.Mathlib.Omega.{arith}
-use mathlib.Core.Bool.{Bool, not}
 use mathlib.Core.List.{List}
 use lib.Dec.{ltb, eqb}
 use lib.ListN.{length, getD}
@@ -20,7 +19,7 @@ use Rattle.convolution.proofs.CodeLaws.{length-codedBits, codedBits-below}
 use Rattle.convolution.proofs.DecodingLaws.{decode-encode}
 use Rattle.interleaver.specs.Places.{placeOf, orderOf}
 use Rattle.interleaver.proofs.PlaceLaws.{placeOf-below, orderOf-below, orderOf-placeOf, placeOf-orderOf}
-use Rattle.frame.specs.Symbols.{syncVector, syncAt, symbolAt, frameOf, RightSymbols, receivedBits, synced, wrongSyncIn}
+use Rattle.frame.specs.Symbols.{syncVector, syncAt, symbolAt, frameOf, RightSymbols, receivedBits, synced, unsyncedAt, wrongSyncIn}
 use Rattle.frame.specs.Answer.{small, firstLarge, firstWrongSync}
 use Rattle.frame.specs.RoundTrip.{RightForm}
 
@@ -36,15 +35,15 @@ unfolding syncAt syncVector
 sync-below place = ltb-true _ _ (every-at (λ s. ltb s 2) syncVector 0 refl refl place)
 
 module _ (word place : ℕ) where
-  pub symbol-to-3 : symbolAt (codedBits word) place ≤ 3
+  symbol-to-3 : symbolAt (codedBits word) place ≤ 3
   unfolding symbolAt
   symbol-to-3 = omega (arith, sync-below place, codedBits-below word (orderOf place))
 
-  pub symbol-sync : symbolAt (codedBits word) place % 2 ≡ syncAt place
+  symbol-sync : symbolAt (codedBits word) place % 2 ≡ syncAt place
   unfolding symbolAt
   symbol-sync = omega (arith, sync-below place)
 
-  pub symbol-data : symbolAt (codedBits word) place / 2 ≡ getD (codedBits word) (orderOf place) 0
+  symbol-data : symbolAt (codedBits word) place / 2 ≡ getD (codedBits word) (orderOf place) 0
   unfolding symbolAt
   symbol-data = omega (arith, sync-below place)
 
@@ -148,13 +147,10 @@ module _ (frame : List ℕ) where
 -- None is counted exactly where every sync bit is right.
 pub no-wrong-sync : (frame : List ℕ) → (wrongSyncIn frame ≡ 0) ↔ ((place : ℕ) → place < 162 → getD frame place 0 % 2 ≡ syncAt place)
 unfolding wrongSyncIn
-no-wrong-sync frame = (right, λ all. count-none 162 wrong (λ place h. rw (eq-eqb _ _ (all place h))))
+no-wrong-sync frame = (right, λ all. count-none 162 (unsyncedAt frame) (λ place h. rw (eq-eqb _ _ (all place h))))
   where
-    wrong : ℕ → Bool
-    wrong place = not (synced place (getD frame place 0))
-
-    right : countBelow 162 wrong ≡ 0 → (place : ℕ) → place < 162 → getD frame place 0 % 2 ≡ syncAt place
+    right : countBelow 162 (unsyncedAt frame) ≡ 0 → (place : ℕ) → place < 162 → getD frame place 0 % 2 ≡ syncAt place
     right none place h =
         by-test (eqb (getD frame place 0 % 2) (syncAt place))
         (λ same. eqb-true _ _ same)
-        (λ other. absurd (omega (arith, count-one 162 wrong place h (rw other))))
+        (λ other. absurd (omega (arith, count-one 162 (unsyncedAt frame) place h (rw other))))

@@ -1,4 +1,4 @@
--- The symbols of a frame (01, 'Frame'): sync bits, data bits, and the frame of a word.
+-- The symbols of a frame (01, 'Frame' and 'Repair'): sync bits, data bits, the frame of a word, and back from a frame.
 use mathlib.Core.Path.{_≡_}
 use Prim.Native.Nat.{ℕ, _+_, _*_, _/_, _%_, _≤_, _<_}
 use mathlib.Core.Bool.{Bool, not}
@@ -48,6 +48,10 @@ receivedBits frame = tabulate 162 (λ index. dataAt frame (placeOf index))
 abbrev pub synced : ℕ → ℕ → Bool
 synced place symbol = eqb (symbol % 2) (syncAt place)
 
+-- The sync bit at a place of a frame is wrong.
+abbrev pub unsyncedAt : List ℕ → ℕ → Bool
+unsyncedAt frame place = not (synced place (getD frame place 0))
+
 -- "the number of the 162 symbols whose sync bit (symbol modulo 2) is wrong"
 unfoldable pub wrongSyncIn : List ℕ → ℕ
-wrongSyncIn frame = countBelow 162 (λ place. not (synced place (getD frame place 0)))
+wrongSyncIn frame = countBelow 162 (unsyncedAt frame)

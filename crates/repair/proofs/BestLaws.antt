@@ -1,4 +1,5 @@
--- The record of the nearest word so far: what it says before any word, with one word more, and with words that aren't within the limit.
+-- The record of the nearest word so far: what it says before any word, with one word more, and with words that change nothing. A word's
+-- disagreements are its distance here.
 use mathlib.Core.Path.{_≡_}
 use Prim.Native.Nat.{ℕ, _+_, _≤_, _<_}
 use native.Mathlib.Omega.{arith}
@@ -43,8 +44,8 @@ module _ (received : List ℕ) (limit : ℕ) where
         next-found = λ h. absurd (omega arith);
       }
 
-  -- Words that aren't within the limit change nothing.
-  pub best-passes : (bound more : ℕ) (best : Best) → bound ≤ more → ((word : ℕ) → bound ≤ word → word < more → limit < of word)
+  -- Words with no fewer disagreements than the next fewest change nothing.
+  pub best-passes : (bound more : ℕ) (best : Best) → bound ≤ more → ((word : ℕ) → bound ≤ word → word < more → best .next ≤ of word)
       → BestBelow received limit bound best → BestBelow received limit more best
   best-passes bound more best h far b =
       record {
@@ -54,12 +55,12 @@ module _ (received : List ℕ) (limit : ℕ) where
             λ word k.
             below-or-not word bound
             (b .fewest-least word)
-            (λ later. omega (arith, b .in-order, b .next-most, far word later k));
+            (λ later. omega (arith, b .in-order, far word later k));
         next-least =
             λ word k other.
             below-or-not word bound
             (λ earlier. b .next-least word earlier other)
-            (λ later. omega (arith, b .next-most, far word later k));
+            (λ later. far word later k);
         fewest-found = λ k. let found = b .fewest-found k in (omega (arith, found .0), found .1);
         next-found = λ k. let found = b .next-found k in (found .0, (omega (arith, found .1 .0), found .1 .1));
       }
@@ -83,7 +84,7 @@ module _ (received : List ℕ) (limit : ℕ) where
         (λ no-less.
         below-or-not distance (best .next)
         (λ less. rw (with-next best bound distance no-less less) (second no-less less))
-        (λ neither. rw (with-neither best bound distance no-less neither) (unchanged no-less neither)))
+        (λ neither. rw (with-neither best bound distance no-less neither) (unchanged neither)))
       where
         nearest : distance < best .fewest → BestBelow received limit (bound + 1) (record { word = bound; fewest = distance; next = best .fewest })
         nearest less =
@@ -116,17 +117,6 @@ module _ (received : List ℕ) (limit : ℕ) where
                   λ h. (bound, (omega arith, ((λ same. absurd (omega (arith, found-before (omega arith)))), its)));
             }
 
-        unchanged : best .fewest ≤ distance → best .next ≤ distance → BestBelow received limit (bound + 1) best
-        unchanged no-less neither =
-            record {
-              in-order = b .in-order;
-              next-most = b .next-most;
-              fewest-least = one-more (best .fewest) (b .fewest-least) no-less;
-              next-least =
-                  λ word h other.
-                  below-or-not word bound
-                  (λ before. b .next-least word before other)
-                  (λ later. let same : word ≡ bound = omega arith in rw (same, its) neither);
-              fewest-found = λ h. let found = b .fewest-found h in (omega (arith, found .0), found .1);
-              next-found = λ h. let found = b .next-found h in (found .0, (omega (arith, found .1 .0), found .1 .1));
-            }
+        unchanged : best .next ≤ distance → BestBelow received limit (bound + 1) best
+        unchanged neither =
+            best-passes bound (bound + 1) best (omega arith) (λ word from to. let same : word ≡ bound = omega arith in rw (same, its) neither) b

@@ -38,6 +38,17 @@ module _ (frame : List ℕ) where
       (λ less. absurd (omega (arith, a .large, b .none-before p less)))
       (λ no-less. below-or-not q p (λ less. absurd (omega (arith, b .large, a .none-before q less))) (λ same. omega arith))
 
+-- ---- Refusals that differ
+
+place-same : (f g : Refusal) → Repaired.Refused f ≡ Repaired.Refused g → f .place ≡ g .place
+unfolding repairNumbers
+place-same f g e = ap (λ (a : Repaired). repairNumbers a .place) e
+
+-- Two refusals are the same only by number and place.
+differs : {Q : Type 0} (f g : Refusal) → ((f .number ≡ g .number) × (f .place ≡ g .place) → ⊥) → Repaired.Refused f ≡ Repaired.Refused g → Q
+unfolding repairNumbers
+differs f g other e = absurd (other (number-same _ _ e, place-same f g e))
+
 -- ---- The cases
 
 module _ (frame : List ℕ) (limit budget : ℕ) where
@@ -104,15 +115,6 @@ module _ (frame : List ℕ) (limit budget : ℕ) where
           rw (repaired-searched frame limit budget symbols bounds) (right symbols bounds))
 
   -- ---- Each exactly when it applies
-
-  place-same : (f g : Refusal) → Repaired.Refused f ≡ Repaired.Refused g → f .place ≡ g .place
-  unfolding repairNumbers
-  place-same f g e = ap (λ (a : Repaired). repairNumbers a .place) e
-
-  -- Two refusals are the same only by number and place.
-  differs : {Q : Type 0} (f g : Refusal) → ((f .number ≡ g .number) × (f .place ≡ g .place) → ⊥) → Repaired.Refused f ≡ Repaired.Refused g → Q
-  unfolding repairNumbers
-  differs f g other e = absurd (other (number-same _ _ e, place-same f g e))
 
   not-searched : {Q : Type 0} (f : Refusal) → f .number < 16 → searched frame limit budget ≡ Repaired.Refused f → Q
   not-searched f h e = absurd (omega (arith, searched-refusal frame limit budget f e))

@@ -2,7 +2,7 @@
 use mathlib.Core.Path.{_≡_, refl, sym, ap, ap₂, _∙_}
 use Prim.Native.Nat.{ℕ, _^_, _≤_, _<_}
 use native.Mathlib.Omega.{arith}
-use mathlib.Core.Bool.{Bool, not}
+use mathlib.Core.Bool.{not}
 use mathlib.Core.List.{List}
 use lib.Dec.{eqb}
 use lib.ListN.{getD}
@@ -19,7 +19,7 @@ use Rattle.distance.proofs.Bits.{differences-sym, differences-counted}
 use Rattle.distance.proofs.PrefixLaws.{word-disagreements}
 use Rattle.distance.proofs.ZeroWord.{flipped-most, others-further}
 use Rattle.repair.specs.Answer.{answerWith, repaired}
-use Rattle.repair.specs.Demand.{Bounds, IsNearest, flips, givenBack, TwoFlipsRepaired}
+use Rattle.repair.specs.Demand.{Bounds, IsNearest, flippedAt, flips, givenBack, TwoFlipsRepaired}
 use Rattle.repair.specs.declared.Repaired.{Repaired}
 use Rattle.repair.proofs.AnswerLaws.{demanded}
 
@@ -41,12 +41,9 @@ module _ (word : ℕ) (frame : List ℕ) where
       (word-disagreements received word
       ∙ differences-sym (codedBits word) received
       ∙ differences-counted 162 received (codedBits word) (length-receivedBits frame) (length-codedBits word)
-      ∙ count-same 162 (λ i. not (eqb (getD received i 0) (getD (codedBits word) i 0))) (λ i. flipped (placeOf i))
+      ∙ count-same 162 (λ i. not (eqb (getD received i 0) (getD (codedBits word) i 0))) (λ i. flippedAt word frame (placeOf i))
       (λ i h. ap₂ (λ (a b : ℕ). not (eqb a b)) (received-there i h) (sent-there i h))
-      ∙ count-reordered 162 placeOf orderOf placeOf-below orderOf-placeOf orderOf-below placeOf-orderOf flipped)
-    where
-      flipped : ℕ → Bool
-      flipped place = not (eqb (dataAt frame place) (dataAt (frameOf word) place))
+      ∙ count-reordered 162 placeOf orderOf placeOf-below orderOf-placeOf orderOf-below placeOf-orderOf (flippedAt word frame))
 
   -- ---- Two flips at most
 
@@ -64,7 +61,7 @@ module _ (word : ℕ) (frame : List ℕ) where
         record { only-nearest = others-more; its-disagreements = flips-disagreements; within-limit = few; live-count = refl; wrong-sync = refl }
 
     -- A budget from 569 on is enough.
-    pub sent-repaired : (budget : ℕ) → 569 ≤ budget → budget ≤ 65_536 → RightSymbols frame
+    sent-repaired : (budget : ℕ) → 569 ≤ budget → budget ≤ 65_536 → RightSymbols frame
         → repaired frame 2 budget ≡ Repaired.Word (givenBack word frame 2)
     sent-repaired budget enough most right =
         let bounds : Bounds 2 budget = record { limit-to-12 = omega arith; budget-from-1 = omega arith; budget-to-65536 = most } in

@@ -185,7 +185,8 @@ module _ {received : List ℕ} {limit budget : ℕ} where
             let stands : child * span (depth + 1) ≡ next = child-span depth number branch h in
             let child-far : limit < disagreements received (prefixBits (depth + 1) child) = omega (arith, e ∙ branch-distance) in
             passing best live (w .live-is ∙ sym (rw stands at (live-pass received limit depth first child child-far))) (w .live-within)
-            (best-passes received limit next (next + span (depth + 1)) best (omega arith) (all-far stands child-far) (w .best-is))
+            (best-passes received limit next (next + span (depth + 1)) best (omega arith)
+            (λ word from to. omega (arith, all-far stands child-far word from to, w .best-is .next-most)) (w .best-is))
           where
             -- No word with a prefix that isn't live is within the limit.
             all-far : child * span (depth + 1) ≡ next → limit < disagreements received (prefixBits (depth + 1) child)

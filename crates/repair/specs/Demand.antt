@@ -3,7 +3,7 @@
 use mathlib.Core.Path.{_≡_}
 use mathlib.Core.Logic.{_↔_, _⊎_}
 use Prim.Native.Nat.{ℕ, _^_, _≤_, _<_}
-use mathlib.Core.Bool.{not}
+use mathlib.Core.Bool.{Bool, not}
 use mathlib.Core.List.{List}
 use lib.Dec.{eqb}
 use lib.ListN.{length, getD}
@@ -65,6 +65,7 @@ pub record Shared (received : List ℕ) (limit : ℕ) : Type 0 where
   pub another-fewest : AtMostAll received another
   pub within-limit : wordDisagreements received one ≤ limit
 
+-- Demand 3: when the answer is "out of budget", when it is a word and which, and else why there is none.
 pub record Demanded (frame : List ℕ) (limit budget : ℕ) (answer : Repaired) : Type 0 where
   -- "it says "out of budget" exactly when the live count .. is above the budget"
   pub out-of-budget : (answer ≡ Repaired.Refused (refusal overBudget 0)) ↔ (budget < liveCount (receivedBits frame) limit)
@@ -84,9 +85,13 @@ AsDemanded frame limit budget answer = RightSymbols frame → Bounds limit budge
 
 -- ---- Flipped data bits
 
--- "A data bit is flipped where the received one differs from that of the sent word's frame." How many are.
+-- "A data bit is flipped where the received one differs from that of the sent word's frame."
+abbrev pub flippedAt : ℕ → List ℕ → ℕ → Bool
+flippedAt word frame place = not (eqb (dataAt frame place) (dataAt (frameOf word) place))
+
+-- How many are.
 unfoldable pub flips : ℕ → List ℕ → ℕ
-flips word frame = countBelow 162 (λ place. not (eqb (dataAt frame place) (dataAt (frameOf word) place)))
+flips word frame = countBelow 162 (flippedAt word frame)
 
 -- The sent word, "with the number of flipped bits as its disagreements", and what else the answer holds.
 unfoldable pub givenBack : ℕ → List ℕ → ℕ → Nearest

@@ -13,8 +13,8 @@ pub(crate) struct Found {
     pub best: Best,
 }
 
-// Visits each live prefix, a shorter one before the longer ones, and stops at once when they are more
-// than the budget.
+// Visits each live prefix before the longer ones that begin with it, depth first, and stops at once
+// when they are more than the budget.
 pub(crate) fn search(received: &[u8; 162], limit: u32, budget: u32) -> Found
     requires { ⌜ Received (now received) ⌝ }
     requires { ⌜ limit ≤ 12 ⌝ }

@@ -1,6 +1,6 @@
 -- Laws of the two numbers: what is measured gives digits below their radices, the readings in the numbers are the quantised ones, and
 -- the readings in any two numbers below their ends give those numbers again.
-use mathlib.Core.Path.{_≡_, refl, sym, subst}
+use mathlib.Core.Path.{_≡_, refl}
 use Prim.Native.Nat.{ℕ, _+_, _-_, _/_, _%_, _≤_, _<_}
 use native.Mathlib.Nat.{add-sub-cancel}
 use native.Mathlib.Omega.{arith}
@@ -51,11 +51,11 @@ module _ (m : Measured) (r : InRange m) where
 
   pub position-below : positionNumber m < 615_168
   unfolding positionNumber
-  position-below = subst (λ (n : ℕ). positionNumber m < n) position-count (number-below positionRadices (positionDigits m) position-digits)
+  position-below = rw (← position-count) (number-below positionRadices (positionDigits m) position-digits)
 
   pub sensor-below : sensorNumber m < 604_800
   unfolding sensorNumber
-  sensor-below = subst (λ (n : ℕ). sensorNumber m < n) sensor-count (number-below sensorRadices (sensorDigits m) sensor-digits)
+  sensor-below = rw (← sensor-count) (number-below sensorRadices (sensorDigits m) sensor-digits)
 
   -- The readings in the two numbers are the quantised ones.
   letter-again : (g : ℕ) → 65 ≤ g → g - 65 + 65 ≡ g
@@ -110,7 +110,7 @@ module _ (first third a b : ℕ) (is-first : isFirstCharacter first ≡ true) (i
   pub again-position : a < 615_168 → positionNumber again ≡ a
   unfolding positionNumber
   again-position h =
-      rw again-position-digits (numberOf-digitsOf positionRadices position-positive (subst (λ (n : ℕ). a < n) (sym position-count) h))
+      rw again-position-digits (numberOf-digitsOf positionRadices position-positive (rw position-count h))
 
   again-sensor-digits : (b % 2 ≡ 0 → ⊥) → sensorDigits again ≡ digitsOf sensorRadices b
   unfolding Digits digitsOf count inTenths readingOf readingFrom sensorRadices sensorDigits
@@ -122,4 +122,4 @@ module _ (first third a b : ℕ) (is-first : isFirstCharacter first ≡ true) (i
   pub again-sensors : (b % 2 ≡ 0 → ⊥) → b < 604_800 → sensorNumber again ≡ b
   unfolding sensorNumber
   again-sensors odd h =
-      rw (again-sensor-digits odd) (numberOf-digitsOf sensorRadices sensor-positive (subst (λ (n : ℕ). b < n) (sym sensor-count) h))
+      rw (again-sensor-digits odd) (numberOf-digitsOf sensorRadices sensor-positive (rw sensor-count h))

@@ -1,4 +1,4 @@
--- What writing and reading telemetry answer, for every input, and the result numbers of each answer.
+-- What writing and reading telemetry answer, for every input, what the lent buffers then hold, and the result numbers of each answer.
 use Prim.Native.Nat.{ℕ, _%_}
 use mathlib.Core.Bool.{cond, not}
 use mathlib.Core.List.{List}

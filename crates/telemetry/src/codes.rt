@@ -26,7 +26,7 @@ const SENSOR_RADICES: [u64; 5] = [90, 40, 42, 2, 2];
 
 const SENSOR_COUNT: u64 = 604_800;
 
-// Signed division drops the tenths toward zero.
+// The code of a temperature in tenths of a degree. Signed division drops the tenths toward zero.
 fn temperature_code(tenths: i32) -> u64
     requires { ⌜ temperatureInRange tenths ≡ true ⌝ }
     ensures { λ r. ⌜ r ≡ temperatureCode tenths ⌝ }
@@ -34,6 +34,7 @@ fn temperature_code(tenths: i32) -> u64
     (tenths / 10 + 50) as u64
 }
 
+// The code of a voltage in millivolts.
 fn voltage_code(voltage: u32) -> u64
     requires { ⌜ 3_000 ≤ voltage ⌝ }
     ensures { λ r. ⌜ r ≡ voltageCode voltage ⌝ }
@@ -78,6 +79,7 @@ pub(crate) fn numbers_from(m: Measured) -> Numbers
     }
 }
 
+// The degrees of a temperature's code.
 fn degrees_of(code: u64) -> i32
     requires { ⌜ code ≤ 89 ⌝ }
     ensures { λ r. ⌜ r ≡ degrees code ⌝ }
@@ -85,6 +87,7 @@ fn degrees_of(code: u64) -> i32
     code as i32 - 50
 }
 
+// The millivolts of a voltage's code.
 fn millivolts_of(code: u64) -> u32
     requires { ⌜ code ≤ 39 ⌝ }
     ensures { λ r. ⌜ r ≡ millivolts code ⌝ }

@@ -1,12 +1,12 @@
 -- `frame::symbols::first_large` meets its contract: it looks for the first place whose symbol is above 3.
 -- The measure is what is left of the frame.
 -- Assumes nothing.
-use mathlib.Core.Path.{refl, sym, _∙_}
+use mathlib.Core.Path.{refl}
 use Prim.Native.Nat.{_-_}
 use native.Mathlib.Omega.{arith}
 use lib.ListN.{length, getD}
 use borrow.Author.Tests.{le-leb, lt-leb}
-use Rattle.basics.proofs.ListLaws.{Searching, search-failed, search-passed, search-over}
+use Rattle.basics.proofs.ListLaws.{Searching, search-found, search-next, search-none}
 use Rattle.frame.specs.Answer.{small, firstLarge}
 use Rattle.frame.proofs.symbols.first_large.Statement.{statement}
 use Rattle.frame.proofs.symbols.first_large.Tie as tie
@@ -28,7 +28,7 @@ unfolding firstLarge
 returns c =
     let l = c .before .before .before in
     let frame = l .before .args .frame .now in
-    sym (search-failed small frame (l .loop .place) (l .loop .place) 0 (omega arith) (lt-leb (getD frame (l .loop .place) 0) 3 (omega arith))) ∙ l .loop .inv .1
+    search-found small frame (l .loop .place) (l .loop .inv) 0 (omega arith) (lt-leb (getD frame (l .loop .place) 0) 3 (omega arith))
 
 add-place : tie.Need-add-place Inv-loop μ-loop
 add-place c = omega arith
@@ -40,13 +40,13 @@ loop-again : tie.Need-loop-again Inv-loop μ-loop
 loop-again c =
     let l = c .before .before .before in
     let frame = l .before .args .frame .now in
-    (omega arith, search-passed small frame (l .loop .place) (l .loop .place) 0 (omega arith) (le-leb (getD frame (l .loop .place) 0) 3 (omega arith)) ∙ l .loop .inv .1)
+    search-next small frame (l .loop .place) (l .loop .inv) 0 (omega arith) (le-leb (getD frame (l .loop .place) 0) 3 (omega arith))
 
 returns-2 : tie.Need-returns-2 Inv-loop μ-loop
 unfolding firstLarge
 returns-2 c =
     let l = c .before in
-    sym (search-over small (l .before .args .frame .now) (l .loop .place) (l .loop .place) (omega arith)) ∙ l .loop .inv .1
+    search-none small (l .before .args .frame .now) (l .loop .place) (l .loop .inv) (omega arith)
 
 pub first-large-spec : {M : Type 1} → statement M
 first-large-spec =

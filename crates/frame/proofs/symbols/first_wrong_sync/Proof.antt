@@ -7,7 +7,7 @@ use native.Mathlib.Omega.{arith}
 use lib.ListN.{length}
 use borrow.Author.Needs.{needs}
 use borrow.Author.Tests.{eq-eqb, ne-eqb}
-use Rattle.basics.proofs.ListLaws.{Searching, search-failed, search-passed, search-over}
+use Rattle.basics.proofs.ListLaws.{Searching, search-found, search-next, search-none}
 use Rattle.frame.specs.Symbols.{synced}
 use Rattle.frame.specs.Answer.{firstWrongSync}
 use Rattle.frame.proofs.SymbolLaws.{sync-read}
@@ -38,7 +38,7 @@ returns c =
     let l = c .before .before .before in
     let frame = l .before .before .before .args .frame .now in
     let wrong = ne-eqb _ _ (λ e. c .if1 .taken (e ∙ sym (sync-read (l .loop .place) (l .before .sync-vector .ensures)))) in
-    sym (search-failed synced frame (l .loop .place) (l .loop .place) 0 (omega arith) wrong) ∙ l .loop .inv .1
+    search-found synced frame (l .loop .place) (l .loop .inv) 0 (omega arith) wrong
 
 add-place : tie.Need-add-place Inv-loop μ-loop
 add-place c = omega arith
@@ -51,13 +51,13 @@ loop-again c =
     let l = c .before .before .before in
     let frame = l .before .before .before .args .frame .now in
     let right = eq-eqb _ _ (c .if1 .left ∙ sync-read (l .loop .place) (l .before .sync-vector .ensures)) in
-    (omega arith, search-passed synced frame (l .loop .place) (l .loop .place) 0 (omega arith) right ∙ l .loop .inv .1)
+    search-next synced frame (l .loop .place) (l .loop .inv) 0 (omega arith) right
 
 returns-2 : tie.Need-returns-2 Inv-loop μ-loop
 unfolding firstWrongSync
 returns-2 c =
     let l = c .before in
-    sym (search-over synced (l .before .before .before .args .frame .now) (l .loop .place) (l .loop .place) (omega arith)) ∙ l .loop .inv .1
+    search-none synced (l .before .before .before .args .frame .now) (l .loop .place) (l .loop .inv) (omega arith)
 
 pub first-wrong-sync-spec : {M : Type 1} → statement M
 first-wrong-sync-spec =

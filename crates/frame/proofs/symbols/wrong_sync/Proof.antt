@@ -4,23 +4,18 @@ use mathlib.Core.Path.{_≡_, sym, ap, _∙_}
 use mathlib.Core.Logic.{⊎-elim}
 use Prim.Native.Nat.{ℕ, _-_, _+_, _≤_}
 use native.Mathlib.Omega.{arith}
-use mathlib.Core.Bool.{Bool, not}
-use mathlib.Core.List.{List}
-use lib.ListN.{getD}
+use mathlib.Core.Bool.{not}
 use borrow.Author.Needs.{needs}
 use borrow.Author.Tests.{eq-eqb, ne-eqb}
 use Rattle.basics.specs.Below.{countBelow}
 use Rattle.basics.proofs.BelowLaws.{count-none, count-raised, count-kept}
-use Rattle.frame.specs.Symbols.{synced, wrongSyncIn}
+use Rattle.frame.specs.Symbols.{unsyncedAt, wrongSyncIn}
 use Rattle.frame.proofs.SymbolLaws.{sync-read}
 use Rattle.frame.proofs.symbols.wrong_sync.Statement.{statement}
 use Rattle.frame.proofs.symbols.wrong_sync.Tie as tie
 
-abbrev unsynced : List ℕ → ℕ → Bool
-unsynced frame place = not (synced place (getD frame place 0))
-
 abbrev Inv-loop : tie.InvT-loop
-Inv-loop frame sync wrong₀ place₀ wrong place = (place ≤ 162) × ((wrong ≤ place) × (wrong ≡ countBelow place (unsynced frame)))
+Inv-loop frame sync wrong₀ place₀ wrong place = (place ≤ 162) × ((wrong ≤ place) × (wrong ≡ countBelow place (unsyncedAt frame)))
 
 abbrev μ-loop : tie.MeasureT-loop
 μ-loop frame sync wrong₀ place₀ wrong place = 162 - place
@@ -29,7 +24,7 @@ sync-vector-requires : tie.Need-sync-vector-requires Inv-loop μ-loop
 sync-vector-requires c κs = search needs
 
 loop-holds : tie.Need-loop-holds Inv-loop μ-loop
-loop-holds c = (omega arith, (omega arith, sym (count-none 0 (unsynced (c .before .before .args .frame .now)) (λ i h. absurd (omega arith)))))
+loop-holds c = (omega arith, (omega arith, sym (count-none 0 (unsyncedAt (c .before .before .args .frame .now)) (λ i h. absurd (omega arith)))))
 
 shared-slice-read-sync-bit : tie.Need-shared-slice-read-sync-bit Inv-loop μ-loop
 shared-slice-read-sync-bit c = search needs
@@ -54,10 +49,10 @@ loop-again c =
     ⊎-elim
     (λ v.
     let wrong = ne-eqb _ _ (λ e. v .0 .taken (e ∙ sym (sync-read (l .loop .place) (l .before .sync-vector .ensures)))) in
-    (omega arith, (omega (arith, v .1), v .1 ∙ ap (λ (n : ℕ). n + 1) counted ∙ sym (count-raised (l .loop .place) (unsynced frame) (ap not wrong)))))
+    (omega arith, (omega (arith, v .1), v .1 ∙ ap (λ (n : ℕ). n + 1) counted ∙ sym (count-raised (l .loop .place) (unsyncedAt frame) (ap not wrong)))))
     (λ v.
     let right = eq-eqb _ _ (v .0 .left ∙ sync-read (l .loop .place) (l .before .sync-vector .ensures)) in
-    (omega arith, (omega (arith, v .1), v .1 ∙ counted ∙ sym (count-kept (l .loop .place) (unsynced frame) (ap not right)))))
+    (omega arith, (omega (arith, v .1), v .1 ∙ counted ∙ sym (count-kept (l .loop .place) (unsyncedAt frame) (ap not right)))))
     (c .if1 .came)
 
 returns : tie.Need-returns Inv-loop μ-loop

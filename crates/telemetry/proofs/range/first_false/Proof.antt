@@ -1,13 +1,13 @@
 -- `telemetry::range::first_false` meets its contract: it looks for the first test that is false. The measure is what is left of the tests.
 -- Assumes nothing.
-use mathlib.Core.Path.{refl, sym, _∙_}
+use mathlib.Core.Path.{refl}
 use Prim.Native.Nat.{_-_}
 use native.Mathlib.Omega.{arith}
 use mathlib.Core.Bool.{false}
 use lib.ListN.{length}
 use borrow.Author.Tests.{not-true, not-false}
 use Rattle.basics.specs.Lists.{isTrue}
-use Rattle.basics.proofs.ListLaws.{Searching, search-failed, search-passed, search-over}
+use Rattle.basics.proofs.ListLaws.{Searching, search-found, search-next, search-none}
 use Rattle.telemetry.proofs.range.first_false.Statement.{statement}
 use Rattle.telemetry.proofs.range.first_false.Tie as tie
 
@@ -26,8 +26,7 @@ shared-slice-read-if1 c = omega arith
 returns : tie.Need-returns Inv-loop μ-loop
 returns c =
     let l = c .before .before .before in
-    let i = l .loop .i in
-    sym (search-failed isTrue (l .before .args .tests .now) i i false (omega arith) (not-true _ (c .if1 .taken))) ∙ l .loop .inv .1
+    search-found isTrue (l .before .args .tests .now) (l .loop .i) (l .loop .inv) false (omega arith) (not-true _ (c .if1 .taken))
 
 add-i : tie.Need-add-i Inv-loop μ-loop
 add-i c = omega arith
@@ -38,13 +37,12 @@ loop-less c = omega arith
 loop-again : tie.Need-loop-again Inv-loop μ-loop
 loop-again c =
     let l = c .before .before .before in
-    let i = l .loop .i in
-    (omega arith, search-passed isTrue (l .before .args .tests .now) i i false (omega arith) (not-false _ (c .if1 .left)) ∙ l .loop .inv .1)
+    search-next isTrue (l .before .args .tests .now) (l .loop .i) (l .loop .inv) false (omega arith) (not-false _ (c .if1 .left))
 
 returns-2 : tie.Need-returns-2 Inv-loop μ-loop
 returns-2 c =
     let l = c .before in
-    sym (search-over isTrue (l .before .args .tests .now) (l .loop .i) (l .loop .i) (omega arith)) ∙ l .loop .inv .1
+    search-none isTrue (l .before .args .tests .now) (l .loop .i) (l .loop .inv) (omega arith)
 
 pub first-false-spec : {M : Type 1} → statement M
 first-false-spec =

@@ -6,7 +6,7 @@ use Prim.Native.Nat.{_-_}
 use native.Mathlib.Omega.{arith}
 use lib.ListN.{length}
 use borrow.Author.Tests.{not-true, not-false}
-use Rattle.basics.proofs.ListLaws.{Searching, search-failed, search-passed, search-over}
+use Rattle.basics.proofs.ListLaws.{Searching, search-found, search-next, search-none}
 use Rattle.u4b.specs.Characters.{telemetryAt, firstNotTelemetry}
 use Rattle.u4b.proofs.callsign.first_not_telemetry.Statement.{statement}
 use Rattle.u4b.proofs.callsign.first_not_telemetry.Tie as tie
@@ -30,9 +30,8 @@ returns : tie.Need-returns Inv-loop μ-loop
 unfolding firstNotTelemetry
 returns c =
     let l = c .before .before .before .before in
-    let i = l .loop .i in
-    sym (search-failed telemetryAt (l .before .before .args .callsign .now) i i 0 (omega arith) (sym (c .before .is-telemetry-at .ensures) ∙ not-true _ (c .if1 .taken)))
-    ∙ l .loop .inv .1
+    search-found telemetryAt (l .before .before .args .callsign .now) (l .loop .i) (l .loop .inv) 0 (omega arith)
+    (sym (c .before .is-telemetry-at .ensures) ∙ not-true _ (c .if1 .taken))
 
 add-i : tie.Need-add-i Inv-loop μ-loop
 add-i c = omega arith
@@ -43,17 +42,14 @@ loop-less c = omega arith
 loop-again : tie.Need-loop-again Inv-loop μ-loop
 loop-again c =
     let l = c .before .before .before .before in
-    let i = l .loop .i in (
-      omega arith,
-      search-passed telemetryAt (l .before .before .args .callsign .now) i i 0 (omega arith) (sym (c .before .is-telemetry-at .ensures) ∙ not-false _ (c .if1 .left))
-          ∙ l .loop .inv .1,
-    )
+    search-next telemetryAt (l .before .before .args .callsign .now) (l .loop .i) (l .loop .inv) 0 (omega arith)
+    (sym (c .before .is-telemetry-at .ensures) ∙ not-false _ (c .if1 .left))
 
 returns-2 : tie.Need-returns-2 Inv-loop μ-loop
 unfolding firstNotTelemetry
 returns-2 c =
     let l = c .before in
-    sym (search-over telemetryAt (l .before .before .args .callsign .now) (l .loop .i) (l .loop .i) (omega arith)) ∙ l .loop .inv .1
+    search-none telemetryAt (l .before .before .args .callsign .now) (l .loop .i) (l .loop .inv) (omega arith)
 
 pub first-not-telemetry-spec : {M : Type 1} → statement M
 first-not-telemetry-spec =
