@@ -107,3 +107,12 @@ fn typed_tenths(rng: &mut Rng, tenths: u32) -> String {
         format!("{}.{}", tenths / 10, tenths % 10)
     }
 }
+
+/// A report as it is read: whole degrees and knots.
+pub fn report_line(report: &Telemetry) -> Vec<u8> {
+    let Telemetry { altitude, temperature, voltage, speed, gps, .. } = report;
+    let [first, third, grid5, grid6] =
+        [report.first, report.third, report.grid5, report.grid6].map(char::from);
+    format!("{first}{third} {grid5}{grid6} {altitude} {temperature} {voltage} {speed} {gps}")
+        .into_bytes()
+}
