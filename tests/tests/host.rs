@@ -5,6 +5,7 @@ use std::fs::{self, File};
 use std::io::{self, BufRead, BufReader, Read, Write};
 use std::os::unix::net::UnixStream;
 use std::os::unix::process::ExitStatusExt;
+use std::path::Path;
 use std::process::{ChildStdout, Stdio};
 use std::sync::mpsc::{self, Receiver};
 use std::thread;
@@ -1008,10 +1009,20 @@ fn a_megabyte_without_a_newline_is_one_line() {
     }
 }
 
+/// Through files, as a pipe would have to be emptied a million times.
 #[test]
 fn a_megabyte_of_newlines_is_a_million_lines() {
+    let folder = Path::new(env!("CARGO_TARGET_TMPDIR"));
+    let [given, printed] = ["newlines", "answers"].map(|name| folder.join(name));
+    let input = vec![b'\n'; MEGABYTE];
+    fs::write(&given, &input).unwrap();
     for arguments in COMMANDS {
-        check(arguments, &vec![b'\n'; MEGABYTE]);
+        for arguments in [arguments, &[arguments, &["--json"]].concat()] {
+            let stdout = File::create(&printed).unwrap();
+            let mut ended = end_of(wsprcard(arguments).start(File::open(&given).unwrap(), stdout));
+            ended.stdout = fs::read(&printed).unwrap();
+            assert_ended(arguments, &input, &ended);
+        }
     }
 }
 
