@@ -25,6 +25,7 @@ use wsprcard_tests::lines::{
 use wsprcard_tests::reference::frame::{frame_of, FRAME_LEN};
 use wsprcard_tests::reference::host::{self as reference, Answer, Call, Command};
 use wsprcard_tests::reference::message::{self, Message, CALLSIGNS, LOCATORS};
+use wsprcard_tests::reference::repair::live_count;
 use wsprcard_tests::reference::telemetry::{self, Telemetry, ROOM_A, ROOM_B};
 use wsprcard_tests::reference::Refusal;
 use wsprcard_tests::rng::Rng;
@@ -1016,14 +1017,21 @@ fn a_megabyte_of_newlines_is_a_million_lines() {
     let [given, printed] = ["newlines", "answers"].map(|name| folder.join(name));
     let input = vec![b'\n'; MEGABYTE];
     fs::write(&given, &input).unwrap();
+    let run = |arguments: &[&str]| {
+        let stdout = File::create(&printed).unwrap();
+        let mut ended = end_of(wsprcard(arguments).start(File::open(&given).unwrap(), stdout));
+        ended.stdout = fs::read(&printed).unwrap();
+        assert_ended(arguments, &input, &ended);
+        ended.stdout
+    };
+    let mut counts = Counts::new();
     for arguments in COMMANDS {
-        for arguments in [arguments, &[arguments, &["--json"]].concat()] {
-            let stdout = File::create(&printed).unwrap();
-            let mut ended = end_of(wsprcard(arguments).start(File::open(&given).unwrap(), stdout));
-            ended.stdout = fs::read(&printed).unwrap();
-            assert_ended(arguments, &input, &ended);
-        }
+        run(arguments);
+        let with_json = [arguments, &["--json"]].concat();
+        assert_json(&mut counts, &call(&with_json), &input, &run(&with_json));
     }
+    let names = ["encode", "read", "repair", "telemetry", "telemetry --write"];
+    counts.finish(&names.map(|name| (name, 1, MEGABYTE as u64)));
 }
 
 // Round trips
@@ -1130,6 +1138,22 @@ fn frames_around(rng: &mut Rng, limit: usize) -> Vec<u8> {
     let mut input = joined(frames.iter().map(|frame| frame_line(frame)));
     input.extend_from_slice(&frame_line(&telemetry[1..]));
     input
+}
+
+/// Flips, found by search, with which a frame has a live count of just the budget that holds
+/// unless one is given, and of one more.
+#[test]
+fn the_budget_unless_given_is_16000() {
+    let frame = frame_of(word_of_line(TELEMETRY));
+    let within = flipped(frame, &[32, 57, 73, 76]);
+    assert_eq!(live_count(&within, 9), 16_000);
+    let ended = wsprcard(&["repair", "--limit", "9"]).run(&frame_line(&within));
+    let answer = String::from_utf8_lossy(&ended.stdout);
+    assert!(answer.ends_with("; disagreements 4; live 16000; sync wrong 0\n"), "{answer}");
+    let above = flipped(frame, &[1, 33, 145, 154]);
+    assert_eq!(live_count(&above, 8), 16_001);
+    let refused = "refused 16 0: the live count is above the budget";
+    assert_answer(&["repair", "--limit", "8"], &frame_line(&above), refused);
 }
 
 /// Options in any order and in both forms; of one that is given twice the last counts.
