@@ -1,94 +1,36 @@
 // The program telemetry_lines, run as a child process: its whole output against that of the
 // independent implementation, on legal, damaged and arbitrary lines.
 use std::fs::File;
-use std::io::{Read, Write};
+use std::io::Write;
 use std::os::fd::OwnedFd;
 use std::os::unix::net::UnixStream;
-use std::path::{Path, PathBuf};
-use std::process::{Child, ChildStdin, Command, Stdio};
-use std::sync::mpsc;
-use std::thread::{self, JoinHandle};
 use std::time::{Duration, Instant};
 
-use wsprcard_tests::inputs::{random_message, random_telemetry};
+use wsprcard_tests::child::{self, Ended, Program};
+use wsprcard_tests::inputs::random_message;
+use wsprcard_tests::lines::{damaged_message_line, joined, message_line, telemetry_line};
 use wsprcard_tests::reference::lines as reference;
-use wsprcard_tests::reference::message::{Message, CALLSIGN_LEN, LOCATOR_LEN};
+use wsprcard_tests::reference::message::Message;
 use wsprcard_tests::reference::telemetry::{self, AS, BS};
 use wsprcard_tests::rng::Rng;
-
-/// How long the program may take and how much it may print before it is stopped. No input here
-/// needs nearly as much.
-const TIME_LIMIT: Duration = Duration::from_secs(60);
-const MOST_OUTPUT: u64 = 1 << 27;
 
 /// The bench sheet's line, and its answer.
 const LINE: &[u8] = b"QQ2XFT GP99 60";
 const ANSWER: &str = "Q2 SK 12340 -15 4100 30 1\n";
 const HEADER: &str = "CH GR ALT TEMP MV KT GPS\n";
 
-fn program() -> PathBuf {
-    let path = Path::new(env!("CARGO_MANIFEST_DIR")).join("../target/bin/telemetry_lines");
-    assert!(path.exists(), "{} is missing: run `make program` first", path.display());
-    path
-}
-
-fn start(stdin: Stdio, stdout: Stdio) -> Child {
-    Command::new(program())
-        .stdin(stdin)
-        .stdout(stdout)
-        .spawn()
-        .unwrap_or_else(|error| panic!("telemetry_lines was not started: {error}"))
+fn program() -> Program {
+    Program::new("target/bin/telemetry_lines", "make program", &[])
 }
 
 /// The program's whole output for this input.
 fn run(input: &[u8]) -> Vec<u8> {
-    run_in_pieces(input, input.len().max(1), Duration::ZERO)
+    output_of(program().run(input))
 }
 
-/// The same, where the input is written in pieces of this many bytes, with a pause after each
-/// so that the program reads them apart.
-fn run_in_pieces(input: &[u8], piece_len: usize, pause: Duration) -> Vec<u8> {
-    let mut child = start(Stdio::piped(), Stdio::piped());
-    let writer = write_to(child.stdin.take().unwrap(), input.to_vec(), piece_len, pause);
-    let output = output_of(&mut child);
-    writer.join().expect("the whole input is read");
-    let status = child.wait().unwrap();
-    assert!(status.success(), "telemetry_lines ended with {status}");
-    output
-}
-
-/// Writes beside the test, since the program's output may fill its pipe before it has read all.
-fn write_to(
-    mut stdin: ChildStdin,
-    input: Vec<u8>,
-    piece_len: usize,
-    pause: Duration,
-) -> JoinHandle<()> {
-    thread::spawn(move || {
-        for piece in input.chunks(piece_len) {
-            stdin.write_all(piece).expect("telemetry_lines reads on");
-            stdin.flush().expect("telemetry_lines reads on");
-            thread::sleep(pause);
-        }
-    })
-}
-
-/// Stops a program that doesn't end by itself.
-fn output_of(child: &mut Child) -> Vec<u8> {
-    let mut stdout = child.stdout.take().unwrap().take(MOST_OUTPUT);
-    let (sender, receiver) = mpsc::channel();
-    thread::spawn(move || {
-        let mut output = Vec::new();
-        let read = stdout.read_to_end(&mut output);
-        sender.send(read.map(|_| output))
-    });
-    match receiver.recv_timeout(TIME_LIMIT) {
-        Ok(Ok(output)) if output.len() < MOST_OUTPUT as usize => output,
-        _ => {
-            child.kill().unwrap();
-            panic!("telemetry_lines doesn't end");
-        }
-    }
+fn output_of(ended: Ended) -> Vec<u8> {
+    assert!(ended.status.success(), "telemetry_lines ended with {}", ended.status);
+    ended.stdout
 }
 
 /// The program's output as text, for outputs that are spelled out.
@@ -101,77 +43,13 @@ fn check(input: &[u8]) {
     assert_output(input, &run(input));
 }
 
-/// Shows the first line that is wrong, as whole outputs may be long.
 fn assert_output(input: &[u8], found: &[u8]) {
-    let expected = reference::output(input);
-    if found == expected {
-        return;
-    }
-    let found: Vec<_> = found.split(|&byte| byte == b'\n').collect();
-    let expected: Vec<_> = expected.split(|&byte| byte == b'\n').collect();
-    let same = found.iter().zip(&expected).take_while(|(found, expected)| found == expected);
-    let number = same.count();
-    let line = input.split(|&byte| byte == b'\n').nth(number.wrapping_sub(1)).unwrap_or(b"");
-    panic!(
-        "answer {number} of {}, to {:.100}: {:.100}, not {:.100}",
-        expected.len() - 1,
-        shown(Some(&line)),
-        shown(found.get(number)),
-        shown(expected.get(number))
-    );
-}
-
-fn shown(line: Option<&&[u8]>) -> String {
-    match line {
-        Some(line) => format!("\"{}\"", line.escape_ascii()),
-        None => String::from("nothing"),
-    }
-}
-
-/// Each line with its newline.
-fn joined<Line: AsRef<[u8]>>(lines: impl IntoIterator<Item = Line>) -> Vec<u8> {
-    let mut input = Vec::new();
-    for line in lines {
-        input.extend_from_slice(line.as_ref());
-        input.push(b'\n');
-    }
-    input
-}
-
-fn line_of(message: &Message) -> Vec<u8> {
-    let mut line = message.callsign.to_vec();
-    line.push(b' ');
-    line.extend(message.locator);
-    line.extend(format!(" {:02}", message.power).bytes());
-    line
-}
-
-/// A line of random telemetry.
-fn random_line(rng: &mut Rng) -> Vec<u8> {
-    let telemetry = random_telemetry(rng);
-    line_of(&telemetry::write(&telemetry, CALLSIGN_LEN, LOCATOR_LEN).unwrap())
+    child::assert_output(input, found, &reference::output(input), 1);
 }
 
 /// So many lines of random telemetry.
 fn random_lines(rng: &mut Rng, count: usize) -> Vec<u8> {
-    joined((0..count).map(|_| random_line(rng)))
-}
-
-/// A line with a byte or two changed, left out, put in or swapped; now and then it is as it was.
-fn damaged_line(rng: &mut Rng) -> Vec<u8> {
-    let mut line = if rng.coin() { random_line(rng) } else { line_of(&random_message(rng)) };
-    for _ in 0..rng.between(1, 2) {
-        let place = rng.below(line.len() as u64) as usize;
-        let other = rng.below(line.len() as u64) as usize;
-        match rng.below(5) {
-            0 => line[place] = rng.byte(),
-            1 => line[place] = rng.pick(b" 0123456789AQRSXYZaqrxz\r\0"),
-            2 => line.insert(place, rng.pick(b" 0A")),
-            3 => drop(line.remove(place)),
-            _ => line.swap(place, other),
-        }
-    }
-    line
+    joined((0..count).map(|_| telemetry_line(rng)))
 }
 
 // The published values
@@ -357,11 +235,12 @@ fn lines_are_answered_however_they_arrive() {
         (65_537, 70_000),
     ] {
         let mut input = joined((0..count).map(|turn| match turn % 4 {
-            0 => damaged_line(&mut rng),
-            _ => random_line(&mut rng),
+            0 => damaged_message_line(&mut rng),
+            _ => telemetry_line(&mut rng),
         }));
         input.extend_from_slice(LINE);
-        assert_output(&input, &run_in_pieces(&input, piece_len, pause));
+        let ended = program().run_in_pieces(&input, piece_len, pause);
+        assert_output(&input, &output_of(ended));
     }
 }
 
@@ -374,7 +253,7 @@ fn every_byte_at_every_place_is_answered() {
     for place in 0..14 {
         for byte in 0..=255 {
             for turn in 0..4 {
-                let mut line = if turn == 0 { LINE.to_vec() } else { random_line(&mut rng) };
+                let mut line = if turn == 0 { LINE.to_vec() } else { telemetry_line(&mut rng) };
                 line[place] = byte;
                 lines.push(line);
             }
@@ -425,7 +304,7 @@ fn every_reading_is_printed() {
     let lines = (0..AS).map(|a| {
         let callsign = telemetry::callsign_of(b"01Q"[a as usize % 3], b'0' + (a % 10) as u8, a);
         let (locator, power) = telemetry::locator_and_power_of((2 * a + 1) % BS);
-        line_of(&Message { callsign, locator, power })
+        message_line(&Message { callsign, locator, power })
     });
     check(&joined(lines));
 }
@@ -467,8 +346,8 @@ fn put_newlines(rng: &mut Rng, input: &mut [u8], one_in: u64) {
 fn long_inputs_are_answered() {
     let mut rng = Rng::new(5);
     check(&random_lines(&mut rng, 70_000));
-    check(&joined((0..70_000).map(|_| damaged_line(&mut rng))));
-    check(&joined((0..70_000).map(|_| line_of(&random_message(&mut rng)))));
+    check(&joined((0..70_000).map(|_| damaged_message_line(&mut rng))));
+    check(&joined((0..70_000).map(|_| message_line(&random_message(&mut rng)))));
 }
 
 /// 01's three lines over and over. The best of three runs counts, as other tests run beside
@@ -494,11 +373,7 @@ fn a_mebibyte_takes_under_a_second() {
 
 /// The program's whole output where its input comes from this stream.
 fn text_from(stdin: OwnedFd) -> String {
-    let mut child = start(Stdio::from(stdin), Stdio::piped());
-    let output = output_of(&mut child);
-    let status = child.wait().unwrap();
-    assert!(status.success(), "telemetry_lines ended with {status}");
-    String::from_utf8_lossy(&output).into_owned()
+    String::from_utf8_lossy(&output_of(program().run_from(stdin))).into_owned()
 }
 
 /// A read that fails is no end of a line: the rest of it may be to come.
@@ -533,13 +408,5 @@ fn an_input_that_can_not_be_read_gives_the_header_alone() {
 fn the_program_ends_where_its_output_can_not_be_written() {
     let endless = File::open("/dev/zero").unwrap();
     let full = File::options().write(true).open("/dev/full").unwrap();
-    let mut child = start(Stdio::from(endless), Stdio::from(full));
-    let began = Instant::now();
-    while child.try_wait().unwrap().is_none() {
-        if began.elapsed() > TIME_LIMIT {
-            child.kill().unwrap();
-            panic!("telemetry_lines reads on, though nothing can be written");
-        }
-        thread::sleep(Duration::from_millis(10));
-    }
+    child::end_of(program().start(endless, full));
 }
