@@ -47,5 +47,35 @@ build/bench_repair: bench/repair.c bench/search.c bench/search.h include/wsprcar
 	mkdir -p build
 	$(COMPILE) -o $@ bench/repair.c bench/search.c $(CARD)
 
+# Robustness: hostile input on the exports and on the host program, and fuzzing.
+
+.PHONY: hostile fuzz fuzz-smoke fuzz_reference fuzz_reference_covered
+
+test: hostile fuzz-smoke
+
+SANITIZE = -g -fsanitize=address,undefined -fno-sanitize-recover=all
+HOSTILE = tests/c/hostile.c tests/c/hostile_input.c
+HOSTILE_HEADERS = tests/c/hostile_input.h tests/c/generator.h include/wsprcard.h
+
+# Under valgrind and with the sanitizers; it needs valgrind.
+hostile: build/hostile build/hostile_sanitized build/noise build/wsprcard build/wsprcard_sanitized
+	sh tests/hostile.sh
+
+build/hostile: $(HOSTILE) $(HOSTILE_HEADERS) $(CARD)
+	mkdir -p build
+	$(COMPILE) -g -o $@ $(HOSTILE) $(CARD)
+
+build/hostile_sanitized: $(HOSTILE) $(HOSTILE_HEADERS) $(CARD)
+	mkdir -p build
+	$(COMPILE) $(SANITIZE) -o $@ $(HOSTILE) $(CARD)
+
+build/noise: tests/c/noise.c tests/c/generator.h
+	mkdir -p build
+	$(COMPILE) -o $@ tests/c/noise.c
+
+build/wsprcard_sanitized: $(wildcard host/*.c host/*.h) include/wsprcard.h $(CARD)
+	mkdir -p build
+	$(COMPILE) $(SANITIZE) -o $@ $(wildcard host/*.c) $(CARD)
+
 clean:
 	rm -rf target build tests/target
