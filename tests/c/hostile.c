@@ -5,45 +5,14 @@
 #include <stdlib.h>
 #include <string.h>
 
+#include "exports.h"
 #include "hostile_input.h"
 #include "wsprcard.h"
-
-enum export {
-    PACK,
-    UNPACK,
-    WRITE_WORD,
-    WRITE_MESSAGE,
-    READ_WORD,
-    READ_MESSAGE,
-    REPAIR,
-    U4B_WRITE,
-    U4B_READ,
-    EXPORTS
-};
-
-/* The refusals that each may give, ended by 0. */
-static const struct {
-    const char *name;
-    uint32_t refusals[9];
-} exports[EXPORTS] = {
-    [PACK] = {"wspr_pack", {1, 2, 3}},
-    [UNPACK] = {"wspr_unpack", {1, 4, 5, 6}},
-    [WRITE_WORD] = {"wspr_write_word", {1, 4}},
-    [WRITE_MESSAGE] = {"wspr_write_message", {1, 2, 3}},
-    [READ_WORD] = {"wspr_read_word", {1, 7, 8, 9}},
-    [READ_MESSAGE] = {"wspr_read_message", {1, 7, 8, 9, 4, 5, 6}},
-    [REPAIR] = {"wspr_repair", {1, 15, 7, 16, 17, 18}},
-    [U4B_WRITE] = {"u4b_write", {1, 14}},
-    [U4B_READ] = {"u4b_read", {1, 2, 3, 10, 11, 12, 13}},
-};
-
-enum { REFUSALS = 19, TIE = 18 };
 
 /* The largest place that goes with each refusal; 0 is success. */
 static const uint32_t last_places[REFUSALS] = {[2] = 9, [7] = 161, [8] = 161, [10] = 5, [14] = 8, [15] = 1};
 
-/* How often each export gave each refusal, and which call is being held to its promises. */
-static unsigned long counts[EXPORTS][REFUSALS];
+/* Which call is being held to its promises. */
 static enum export current;
 static unsigned long round_number;
 
@@ -57,7 +26,7 @@ static void hold(int kept, const char *promise)
 {
     if (kept)
         return;
-    printf("hostile: %s in round %lu: broken: %s\n", exports[current].name, round_number, promise);
+    printf("hostile: %s in round %lu: broken: %s\n", export_name(current), round_number, promise);
     exit(1);
 }
 
@@ -96,22 +65,13 @@ static void give_back(struct lent *l)
     free(l->before);
 }
 
-static int may_refuse(enum export export, uint32_t refusal)
-{
-    const uint32_t *given = exports[export].refusals;
-
-    while (*given != 0 && *given != refusal)
-        given++;
-    return *given == refusal;
-}
-
 /* What holds of the refusal and the place of every answer. */
 static void answered(uint32_t refusal, uint32_t place)
 {
     hold(may_refuse(current, refusal), "it gives only its own refusals");
     hold(place <= last_places[refusal], "the place is one of the refusal's");
     hold(refusal != 10 || (place != 1 && place != 2), "refusal 10 has place 0 or 3 to 5");
-    counts[current][refusal]++;
+    count_answer(current, refusal);
 }
 
 /* Read-only buffers; and all buffers where the call is refused. */
@@ -548,30 +508,6 @@ static void (*const tries[EXPORTS])(struct generator *g) = {
     [U4B_READ] = try_u4b_read,
 };
 
-/* How many calls were answered, and how many were refused by each number. */
-static void print_counts(enum export export)
-{
-    printf("%s: %lu answered; refused", exports[export].name, counts[export][0]);
-    for (uint32_t refusal = 1; refusal < REFUSALS; refusal++)
-        if (counts[export][refusal] > 0)
-            printf(" %" PRIu32 ": %lu", refusal, counts[export][refusal]);
-    putchar('\n');
-}
-
-/* Whether success and every refusal was seen. No tie (18) is known within the largest limit. */
-static int saw_all(enum export export)
-{
-    int all = 1;
-
-    for (uint32_t refusal = 0; refusal < REFUSALS; refusal++) {
-        if (!may_refuse(export, refusal) || refusal == TIE || counts[export][refusal] > 0)
-            continue;
-        printf("hostile: %s never gave %" PRIu32 ": more rounds are needed\n", exports[export].name, refusal);
-        all = 0;
-    }
-    return all;
-}
-
 static void try_all(struct generator *g)
 {
     for (current = 0; current < EXPORTS; current++)
@@ -582,13 +518,8 @@ int main(int argc, char **argv)
 {
     unsigned long rounds = argc > 1 ? strtoul(argv[1], NULL, 10) : 0;
     struct generator g = {argc > 2 ? strtoull(argv[2], NULL, 10) : 1};
-    int all = 1;
 
     for (round_number = 1; round_number <= rounds; round_number++)
         try_all(&g);
-    for (enum export export = 0; export < EXPORTS; export++) {
-        print_counts(export);
-        all &= saw_all(export);
-    }
-    return all ? 0 : 1;
+    return report_answers() ? 0 : 1;
 }
