@@ -90,8 +90,7 @@ CARGO_REFERENCE = cargo build --release --offline --quiet --manifest-path tests/
 
 # The counters by which libFuzzer sees which branches of the implementation in Rust an input takes.
 COVERAGE = -Cpasses=sancov-module -Cllvm-args=-sanitizer-coverage-level=4 \
-    -Cllvm-args=-sanitizer-coverage-inline-8bit-counters -Cllvm-args=-sanitizer-coverage-pc-table \
-    -Cllvm-args=-sanitizer-coverage-trace-compares
+    -Cllvm-args=-sanitizer-coverage-inline-8bit-counters -Cllvm-args=-sanitizer-coverage-pc-table
 
 # It starts from random inputs, and keeps in build/corpus what led it further.
 fuzz: build/fuzz build/noise
@@ -108,7 +107,7 @@ fuzz-smoke: build/fuzz_smoke
 
 build/fuzz: $(FUZZ) $(FUZZ_HEADERS) $(REFERENCE_COVERED) $(FUZZ_CARD)
 	mkdir -p build
-	clang -std=c11 -Wall -Wextra -O2 -g -fsanitize=fuzzer,address,undefined -fno-sanitize-recover=all -Iinclude \
+	clang -std=c11 -Wall -Wextra -O2 -g -fsanitize=fuzzer,undefined -fno-sanitize-recover=all -Iinclude \
 	    $(FUZZ_INCLUDES) -o $@ $(FUZZ) $(FUZZ_CARD) $(REFERENCE_COVERED)
 
 build/fuzz_smoke: tests/fuzz/driver.c $(FUZZ) $(FUZZ_HEADERS) $(REFERENCE) $(FUZZ_CARD)

@@ -1,6 +1,6 @@
 #!/bin/sh
-# Hostile input on the library and on the host program, under valgrind and with the sanitizers. `make hostile` builds the
-# programs and runs this in the top folder.
+# Hostile input on the exports and on the host program, under valgrind and with the sanitizers. `make hostile` builds
+# the programs and runs this in the top folder.
 set -u
 
 answers=build/hostile_answers
@@ -76,9 +76,9 @@ on() {
 command -v valgrind > /dev/null || fail "valgrind is needed, and isn't installed"
 
 echo 'The exports under valgrind:'
-valgrind --error-exitcode=1 --leak-check=full -q ./build/hostile 3000 || fail 'the exports under valgrind'
+valgrind --error-exitcode=1 --leak-check=full -q ./build/hostile 2000 || fail 'the exports under valgrind'
 echo 'The exports with the sanitizers:'
-./build/hostile_sanitized 100000 || fail 'the exports with the sanitizers'
+./build/hostile_sanitized 60000 || fail 'the exports with the sanitizers'
 
 on bytes 0 ./build/wsprcard_sanitized
 on 'bytes digits line nuls fields' 1000000 ./build/wsprcard_sanitized

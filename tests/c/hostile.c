@@ -12,6 +12,8 @@
 /* The largest place that goes with each refusal; 0 is success. */
 static const uint32_t last_places[REFUSALS] = {[2] = 9, [7] = 161, [8] = 161, [10] = 5, [14] = 8, [15] = 1};
 
+static const struct refusal wrong_length = {1, 0};
+
 /* Which call is being held to its promises. */
 static enum export current;
 static unsigned long round_number;
@@ -59,6 +61,12 @@ static int is_unchanged(const struct lent *l)
     return l->len == 0 || memcmp(l->bytes, l->before, l->len) == 0;
 }
 
+/* Whether a callsign and a locator have their lengths. */
+static int fit(const struct lent *callsign, const struct lent *locator)
+{
+    return callsign->len == CALLSIGN_LEN && locator->len == LOCATOR_LEN;
+}
+
 static void give_back(struct lent *l)
 {
     free(l->bytes);
@@ -72,6 +80,13 @@ static void answered(uint32_t refusal, uint32_t place)
     hold(place <= last_places[refusal], "the place is one of the refusal's");
     hold(refusal != 10 || (place != 1 && place != 2), "refusal 10 has place 0 or 3 to 5");
     count_answer(current, refusal);
+}
+
+/* Where it is known from the input what is to be refused. */
+static void hold_refused(uint32_t refusal, uint32_t place, struct refusal expected)
+{
+    hold(refusal == expected.number, "it refuses by the number that the input calls for, and right input never");
+    hold(place == expected.place, "the place is that of the first fault");
 }
 
 /* Read-only buffers; and all buffers where the call is refused. */
@@ -151,7 +166,7 @@ static void try_pack(struct generator *g)
     w = wspr_pack(callsign.bytes, callsign.len, locator.bytes, locator.len, m.power);
     answered(w.refusal, w.place);
     hold_unchanged(&callsign, &locator);
-    hold((w.refusal == 0) == is_message(&m), "it refuses what isn't a message, and nothing else");
+    hold_refused(w.refusal, w.place, message_refusal(&m));
     if (w.refusal) {
         hold(w.word == 0, "a refusal's word is 0");
     } else {
@@ -168,16 +183,14 @@ static void try_unpack(struct generator *g)
     struct lent callsign, locator;
     uint64_t word = draw_word(g);
     wspr_message m;
-    int lent_right;
 
     draw_buffer(g, &c, CALLSIGN_LEN);
     draw_buffer(g, &l, LOCATOR_LEN);
     callsign = lend(g, &c);
     locator = lend(g, &l);
-    lent_right = c.len == CALLSIGN_LEN && l.len == LOCATOR_LEN;
     m = wspr_unpack(word, callsign.bytes, callsign.len, locator.bytes, locator.len);
     answered(m.refusal, m.place);
-    hold((m.refusal == 0) == (lent_right && is_message_word(word)), "it refuses what isn't a message's word, only");
+    hold_refused(m.refusal, m.place, fit(&callsign, &locator) ? word_refusal(word) : wrong_length);
     if (m.refusal) {
         hold_unchanged(&callsign, &locator);
         hold(m.power == 0, "a refusal's power is 0");
@@ -200,8 +213,7 @@ static void try_write_word(struct generator *g)
     frame = lend(g, &f);
     w = wspr_write_word(word, frame.bytes, frame.len);
     answered(w.refusal, w.place);
-    hold((w.refusal == 1) == (f.len != FRAME_LEN), "refusal 1 is that of a wrong length");
-    hold((w.refusal == 0) == (f.len == FRAME_LEN && word < WORDS), "it writes every word below 2^50");
+    hold_refused(w.refusal, w.place, f.len == FRAME_LEN ? (struct refusal){word < WORDS ? 0 : 4, 0} : wrong_length);
     if (w.refusal) {
         hold_unchanged(&frame, &frame);
     } else {
@@ -239,7 +251,7 @@ static void try_write_message(struct generator *g)
     w = wspr_write_message(callsign.bytes, callsign.len, locator.bytes, locator.len, m.power, frame.bytes, frame.len);
     answered(w.refusal, w.place);
     hold_unchanged(&callsign, &locator);
-    hold((w.refusal == 0) == (f.len == FRAME_LEN && is_message(&m)), "it refuses what isn't a message, only");
+    hold_refused(w.refusal, w.place, f.len == FRAME_LEN ? message_refusal(&m) : wrong_length);
     if (w.refusal) {
         hold_unchanged(&frame, &frame);
     } else {
@@ -316,6 +328,17 @@ static void hold_message_written(const struct lent *callsign, const struct lent 
     hold(w.refusal == 0 && memcmp(own, frame, FRAME_LEN) == 0, "the message is written as the frame read");
 }
 
+/* First the frame is refused as it is in reading its word; then the lent lengths count, then the word. */
+static void hold_chain(const struct lent *frame, int lent_fit, wspr_message m)
+{
+    wspr_word w = wspr_read_word(frame->bytes, frame->len);
+
+    if (w.refusal)
+        hold_refused(m.refusal, m.place, (struct refusal){w.refusal, w.place});
+    else
+        hold_refused(m.refusal, m.place, lent_fit ? word_refusal(w.word) : wrong_length);
+}
+
 static void try_read_message(struct generator *g)
 {
     struct frame_input f;
@@ -332,9 +355,7 @@ static void try_read_message(struct generator *g)
     m = wspr_read_message(frame.bytes, frame.len, callsign.bytes, callsign.len, locator.bytes, locator.len);
     answered(m.refusal, m.place);
     hold_unchanged(&frame, &frame);
-    hold_frame_refusal(&frame, m.refusal, m.place);
-    if (frame.len == FRAME_LEN && c.len == CALLSIGN_LEN && l.len == LOCATOR_LEN)
-        hold(m.refusal != 1, "refusal 1 is that of a wrong length");
+    hold_chain(&frame, fit(&callsign, &locator), m);
     hold_strict(&f, m.refusal);
     if (m.refusal) {
         hold_unchanged(&callsign, &locator);
@@ -362,6 +383,16 @@ static void hold_repaired(const uint8_t *frame, uint32_t limit, uint32_t budget,
     hold(differing(own, frame, 1, &first) == r.sync_wrong, "the wrong sync bits are all counted");
     hold(again.refusal == 0 && again.word == r.word, "a limit of just the disagreements gives the same word");
     hold(again.live <= r.live, "a lower limit has no more live prefixes");
+}
+
+/* The live count is the least budget that is enough. */
+static void hold_live(const uint8_t *frame, uint32_t limit, wspr_repaired r)
+{
+    wspr_repaired enough = wspr_repair(frame, FRAME_LEN, limit, r.live);
+    wspr_repaired less = wspr_repair(frame, FRAME_LEN, limit, r.live - 1);
+
+    hold(enough.refusal == 0 && enough.word == r.word, "a budget of the live count is enough");
+    hold(less.refusal == 16, "a budget below the live count is refused 16");
 }
 
 /* What is promised of two flipped data bits at most; and that a known word is never passed over for a farther one. */
@@ -405,8 +436,10 @@ static void try_repair(struct generator *g)
     hold_repair_refusal(&frame, limit, budget, r);
     if (f.of_word && !f.spoiled && frame.len == FRAME_LEN)
         hold_healed(&f, limit, budget, r);
-    if (r.refusal == 0)
+    if (r.refusal == 0) {
         hold_repaired(frame.bytes, limit, budget, r);
+        hold_live(frame.bytes, limit, r);
+    }
     give_back(&frame);
 }
 
@@ -433,19 +466,16 @@ static void try_u4b_write(struct generator *g)
     struct content c, l;
     struct lent callsign, locator;
     wspr_message m;
-    int lent_right;
 
     draw_report(g, &r);
     draw_buffer(g, &c, CALLSIGN_LEN);
     draw_buffer(g, &l, LOCATOR_LEN);
     callsign = lend(g, &c);
     locator = lend(g, &l);
-    lent_right = c.len == CALLSIGN_LEN && l.len == LOCATOR_LEN;
     m = u4b_write(r.first, r.third, r.grid5, r.grid6, r.altitude, r.temperature, r.voltage, r.speed, r.gps,
                   callsign.bytes, callsign.len, locator.bytes, locator.len);
     answered(m.refusal, m.place);
-    hold((m.refusal == 1) == !lent_right, "refusal 1 is that of a wrong length");
-    hold((m.refusal == 0) == (lent_right && is_report(&r)), "it refuses what is out of range, and nothing else");
+    hold_refused(m.refusal, m.place, fit(&callsign, &locator) ? report_refusal(&r) : wrong_length);
     if (m.refusal) {
         hold_unchanged(&callsign, &locator);
         hold(m.power == 0, "a refusal's power is 0");
@@ -463,7 +493,6 @@ static void hold_reading(const struct message_input *m, u4b_reading t)
     wspr_message back = u4b_write(t.first, t.third, t.grid5, t.grid6, t.altitude, t.temperature * 10, t.voltage,
                                   t.speed * 10, t.gps, callsign, CALLSIGN_LEN, locator, LOCATOR_LEN);
 
-    hold(is_message(m), "what isn't a message isn't telemetry");
     hold(t.altitude <= 21340 && t.altitude % 20 == 0, "the altitude is 0 to 21,340 in steps of 20");
     hold(t.temperature >= -50 && t.temperature <= 39, "the temperature is -50 to 39");
     hold(t.voltage >= 3000 && t.voltage <= 4950 && t.voltage % 50 == 0, "the voltage is 3,000 to 4,950 in steps of 50");
@@ -471,6 +500,31 @@ static void hold_reading(const struct message_input *m, u4b_reading t)
     hold(back.refusal == 0 && back.power == m->power, "what is read is written as the same message");
     hold(memcmp(callsign, m->callsign.bytes, CALLSIGN_LEN) == 0, "what is read is written as the same callsign");
     hold(memcmp(locator, m->locator.bytes, LOCATOR_LEN) == 0, "what is read is written as the same locator");
+}
+
+/* The first character that telemetry never has: it must be 0, 1 or Q, and 3 to 5 are no spaces. CALLSIGN_LEN if all
+ * are telemetry's. */
+static uint32_t first_not_telemetry(const uint8_t *callsign)
+{
+    uint32_t place = 3;
+
+    if (callsign[0] != '0' && callsign[0] != '1' && callsign[0] != 'Q')
+        return 0;
+    while (place < CALLSIGN_LEN && callsign[place] != ' ')
+        place++;
+    return place;
+}
+
+static void hold_telemetry_refusal(const struct message_input *m, uint32_t refusal, uint32_t place)
+{
+    struct refusal expected = message_refusal(m);
+
+    if (expected.number == 0 && first_not_telemetry(m->callsign.bytes) < CALLSIGN_LEN)
+        expected = (struct refusal){10, first_not_telemetry(m->callsign.bytes)};
+    if (expected.number)
+        hold_refused(refusal, place, expected);
+    else
+        hold(refusal == 0 || refusal >= 11, "a telemetry callsign is refused 11, 12 or 13 only");
 }
 
 static void try_u4b_read(struct generator *g)
@@ -485,7 +539,7 @@ static void try_u4b_read(struct generator *g)
     t = u4b_read(callsign.bytes, callsign.len, locator.bytes, locator.len, m.power);
     answered(t.refusal, t.place);
     hold_unchanged(&callsign, &locator);
-    hold((t.refusal >= 1 && t.refusal <= 3) == !is_message(&m), "refusals 1 to 3 are those of what isn't a message");
+    hold_telemetry_refusal(&m, t.refusal, t.place);
     if (t.refusal) {
         hold((t.first | t.third | t.grid5 | t.grid6) == 0, "a refusal's characters are 0");
         hold((t.altitude | (uint32_t)t.temperature | t.voltage | t.speed | t.gps) == 0, "a refusal's numbers are 0");

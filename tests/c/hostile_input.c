@@ -1,4 +1,4 @@
-/* The input of hostile.c: right, nearly right and wrong, from a seeded generator; and what the header says is right. */
+/* The input of hostile.c: right, nearly right and wrong, from a seeded generator; and how it is to be refused. */
 #include <string.h>
 
 #include "hostile_input.h"
@@ -17,10 +17,9 @@ static const char *const characters[] = {
 
 /* Both sides of every range's ends, of the types' ends, and right numbers with a bit too many. */
 static const uint32_t edges[] = {
-    0,     1,     2,      11,         12,         13,             14,       60,        61,   64,
-    80,    81,    82,     130,        131,        256,            293,      838,       839,  840,
-    2999,  3000,  4999,   5000,       16000,      21359,          21360,    65535,     65536, 65537,
-    131072, INT32_MAX, 1u << 31, UINT32_MAX - 1, UINT32_MAX, 37 + 65536, 37 + (1u << 24),
+    0, 1, 2, 11, 12, 13, 14, 60, 61, 64, 80, 81, 82, 130, 131, 256, 293, 838, 839, 840, 2999, 3000, 4999, 5000, 16000,
+    21359, 21360, 65535, 65536, 65537, 37 + 65536, 131072, 37 + (1u << 24), INT32_MAX, 1u << 31, UINT32_MAX - 1,
+    UINT32_MAX,
 };
 
 static const int32_t temperature_edges[] = {
@@ -273,31 +272,49 @@ int is_power(uint32_t power)
     return 0;
 }
 
-static int is_field(const struct content *c, size_t exact, size_t first_place)
+static int is_character(uint8_t byte, size_t place)
 {
-    if (c->len != exact)
-        return 0;
-    for (size_t i = 0; i < exact; i++)
-        if (!memchr(characters[first_place + i], c->bytes[i], strlen(characters[first_place + i])))
-            return 0;
-    return 1;
+    return memchr(characters[place], byte, strlen(characters[place])) != NULL;
 }
 
-int is_message(const struct message_input *m)
+struct refusal message_refusal(const struct message_input *m)
 {
-    return is_field(&m->callsign, CALLSIGN_LEN, 0) && is_field(&m->locator, LOCATOR_LEN, CALLSIGN_LEN) &&
-           is_power(m->power);
+    if (m->callsign.len != CALLSIGN_LEN || m->locator.len != LOCATOR_LEN)
+        return (struct refusal){1, 0};
+    for (uint32_t place = 0; place < COUNT(characters); place++) {
+        uint8_t byte = place < CALLSIGN_LEN ? m->callsign.bytes[place] : m->locator.bytes[place - CALLSIGN_LEN];
+
+        if (!is_character(byte, place))
+            return (struct refusal){2, place};
+    }
+    return (struct refusal){is_power(m->power) ? 0 : 3, 0};
 }
 
-int is_message_word(uint64_t word)
+struct refusal word_refusal(uint64_t word)
 {
-    return word >> 22 < 262177560 && (word >> 7) % 32768 < 32400 && word % 128 >= 64 && is_power(word % 128 - 64);
+    if (word >> 22 >= 262177560)
+        return (struct refusal){4, 0};
+    if ((word >> 7) % 32768 >= 32400)
+        return (struct refusal){5, 0};
+    return (struct refusal){word % 128 >= 64 && is_power(word % 128 - 64) ? 0 : 6, 0};
 }
 
-int is_report(const struct report_input *r)
+struct refusal report_refusal(const struct report_input *r)
 {
-    return (r->first == '0' || r->first == '1' || r->first == 'Q') && r->third >= '0' && r->third <= '9' &&
-           r->grid5 >= 'A' && r->grid5 <= 'X' && r->grid6 >= 'A' && r->grid6 <= 'X' && r->altitude <= 21359 &&
-           r->temperature >= -500 && r->temperature <= 399 && r->voltage >= 3000 && r->voltage <= 4999 &&
-           r->speed <= 839 && r->gps <= 1;
+    const int in_range[] = {
+        r->first == '0' || r->first == '1' || r->first == 'Q',
+        r->third >= '0' && r->third <= '9',
+        r->grid5 >= 'A' && r->grid5 <= 'X',
+        r->grid6 >= 'A' && r->grid6 <= 'X',
+        r->altitude <= 21359,
+        r->temperature >= -500 && r->temperature <= 399,
+        r->voltage >= 3000 && r->voltage <= 4999,
+        r->speed <= 839,
+        r->gps <= 1,
+    };
+
+    for (uint32_t place = 0; place < COUNT(in_range); place++)
+        if (!in_range[place])
+            return (struct refusal){14, place};
+    return (struct refusal){0, 0};
 }

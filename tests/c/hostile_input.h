@@ -1,4 +1,4 @@
-/* The input of hostile.c: right, nearly right and wrong, from a seeded generator; and what the header says is right. */
+/* The input of hostile.c: right, nearly right and wrong, from a seeded generator; and how it is to be refused. */
 #ifndef HOSTILE_INPUT_H
 #define HOSTILE_INPUT_H
 
@@ -49,9 +49,16 @@ uint64_t draw_word(struct generator *g);
 uint32_t draw_limit(struct generator *g);
 uint32_t draw_budget(struct generator *g);
 
+/* A refusal by the table of the header; 0 and 0 is none. */
+struct refusal {
+    uint32_t number, place;
+};
+
 int is_power(uint32_t power);
-int is_message(const struct message_input *m);
-int is_message_word(uint64_t word);
-int is_report(const struct report_input *r);
+
+/* What is to be refused of each where the lengths of other buffers are right. */
+struct refusal message_refusal(const struct message_input *m);
+struct refusal word_refusal(uint64_t word);
+struct refusal report_refusal(const struct report_input *r);
 
 #endif

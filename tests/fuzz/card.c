@@ -3,7 +3,6 @@
 #include <inttypes.h>
 #include <stdio.h>
 #include <stdlib.h>
-#include <string.h>
 
 #include "card.h"
 #include "exports.h"
@@ -23,12 +22,20 @@ static void equal(const char *what, uint64_t card, uint64_t reference)
     abort();
 }
 
+static void equal_buffers(void)
+{
+    if (fences_agree())
+        return;
+    fprintf(stderr, "fuzz: %s: a byte in a buffer or beside it isn't what the reference says\n", export_name(current));
+    abort();
+}
+
 /* What every answer begins with, and the buffers after every call. */
 static void equal_answers(uint32_t refusal, uint32_t place, uint32_t own_refusal, uint32_t own_place)
 {
     equal("refusal", refusal, own_refusal);
     equal("place", place, own_place);
-    equal("bytes in and beside the buffers differ, which", !fences_agree(), 0);
+    equal_buffers();
     count_answer(current, refusal);
 }
 
@@ -200,7 +207,7 @@ static void (*const tries[EXPORTS])(struct input *in) = {
 
 int LLVMFuzzerTestOneInput(const uint8_t *bytes, size_t count)
 {
-    struct input in = {bytes, count};
+    struct input in = input_of(bytes, count);
 
     current = take(&in) % EXPORTS;
     tries[current](&in);

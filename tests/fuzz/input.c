@@ -17,10 +17,19 @@ static const char *const characters[] = {
     "ABCDEFGHIJKLMNOPQR", "ABCDEFGHIJKLMNOPQR", "0123456789", "0123456789",
 };
 
+struct input input_of(const uint8_t *bytes, size_t count)
+{
+    struct input in = {bytes, count, {count}};
+
+    for (size_t i = 0; i < count; i++)
+        in.rest.state = (in.rest.state ^ bytes[i]) * UINT64_C(0x100000001b3);
+    return in;
+}
+
 uint8_t take(struct input *in)
 {
     if (in->left == 0)
-        return 0;
+        return (uint8_t)draw(&in->rest);
     in->left--;
     return *in->bytes++;
 }
@@ -46,25 +55,30 @@ static size_t take_length(struct input *in, size_t exact)
     return kind < 8 || exact + kind < 18 ? kind : exact + kind - 18;
 }
 
-/* A number of its range; once in a while one of so many bytes. */
-static uint32_t take_in_range(struct input *in, uint32_t first, uint32_t count)
+/* The number as it is; once in a while another one, or it with a bit too many. */
+static uint32_t take_instead(struct input *in, uint32_t number)
 {
     uint8_t kind = take(in);
 
-    if (kind >= 248)
-        return (uint32_t)take_number(in, 4);
-    if (kind >= 240)
-        return first + count + (uint32_t)kind - 244;
-    return first + (uint32_t)take_number(in, 2) % count;
+    if (kind < 240)
+        return number;
+    return kind < 248 ? (uint32_t)take_number(in, 4) : number | UINT32_C(1) << take(in) % 32;
+}
+
+/* A number of its range, or near its end, or any. */
+static uint32_t take_in_range(struct input *in, uint32_t first, uint32_t count)
+{
+    uint8_t kind = take(in);
+    uint32_t number = (uint32_t)take_number(in, 2) % count;
+
+    return take_instead(in, first + (kind < 240 ? number : count + (uint32_t)kind - 248));
 }
 
 static uint32_t take_power(struct input *in)
 {
     uint8_t kind = take(in);
 
-    if (kind >= 248)
-        return (uint32_t)take_number(in, 4);
-    return kind >= 192 ? kind : powers[kind % COUNT(powers)];
+    return take_instead(in, kind < 224 ? powers[kind % COUNT(powers)] : kind % 64u);
 }
 
 /* A word's three parts, each of its range or of as many bits as it has. */
@@ -90,6 +104,8 @@ uint64_t take_word(struct input *in)
         return take_word_of_parts(in, 1);
     case 3: /* at the end of the callsigns' numbers and of the locators' */
         return (UINT64_C(262177559) + (kind >> 7)) << 22 | (32399 + (kind >> 6 & 1)) << 7 | take(in) % 128u;
+    case 4: /* a bit too many, if it isn't one of the 50 */
+        return take_word_of_parts(in, 0) | UINT64_C(1) << (kind >> 3) << 32;
     default:
         return take_word_of_parts(in, 0);
     }
@@ -178,33 +194,50 @@ static void damage(struct input *in, uint8_t *frame, int count)
     }
 }
 
+/* All sync bits turned over, which so many single faults would hardly reach. */
+static void turn_sync_over(uint8_t *frame)
+{
+    for (size_t i = 0; i < FRAME_LEN; i++)
+        frame[i] ^= 1;
+}
+
+/* Any bytes or any symbols. */
+static void take_symbols(struct input *in, struct content *c, uint8_t mask)
+{
+    for (size_t i = 0; i < c->len; i++)
+        c->bytes[i] = take(in) & mask;
+}
+
+/* A word's frame, clean or damaged; or symbols of no word. What is past the frame's end is one byte all over. */
 void take_frame(struct input *in, struct content *c)
 {
-    uint8_t shape = take(in), mask = shape & 4 ? 3 : 0xff;
+    uint8_t shape = take(in);
 
     c->len = take_length(in, FRAME_LEN);
-    memset(c->bytes, take(in) & mask, sizeof c->bytes);
-    if (shape % 4 > 0)
-        reference_write_word(take_word(in) % WORDS, c->bytes, FRAME_LEN);
-    damage(in, c->bytes, shape % 4 == 1 ? 0 : shape >> 4);
-    for (size_t i = 0; shape % 4 == 0 && i < c->len; i++)
-        c->bytes[i] ^= take(in) & mask;
+    memset(c->bytes, take(in), sizeof c->bytes);
+    if (shape % 4 == 0) {
+        take_symbols(in, c, shape & 4 ? 3 : 0xff);
+        return;
+    }
+    reference_write_word(take_word(in) % WORDS, c->bytes, FRAME_LEN);
+    if (shape % 4 == 1 && shape & 4)
+        turn_sync_over(c->bytes);
+    if (shape % 4 > 1)
+        damage(in, c->bytes, shape >> 4);
 }
 
 uint32_t take_limit(struct input *in)
 {
     uint8_t kind = take(in);
 
-    if (kind >= 248)
-        return (uint32_t)take_number(in, 4);
-    return kind >= 192 ? kind % 16u : kind % 5u;
+    return take_instead(in, kind >= 192 ? kind % 16u : kind % 5u);
 }
 
 /* Any budget; or one at the live count, where that is quickly counted. */
 uint32_t take_budget(struct input *in, const struct content *frame, uint32_t limit)
 {
     uint8_t kind = take(in);
-    uint32_t any = (uint32_t)take_number(in, kind == 255 ? 4 : 2);
+    uint32_t any = (uint32_t)take_number(in, 2);
     int countable = frame->len == FRAME_LEN && limit <= 4;
 
     for (size_t i = 0; i < FRAME_LEN; i++)
@@ -212,13 +245,13 @@ uint32_t take_budget(struct input *in, const struct content *frame, uint32_t lim
     if (kind == 254)
         return 65536 + any % 2;
     if (kind % 2 == 0 && countable)
-        return (uint32_t)reference_live_count(frame->bytes, limit) + any % 3 - 1;
-    return any >> (limit > 4 ? kind >> 5 : 0);
+        return take_instead(in, (uint32_t)reference_live_count(frame->bytes, limit) + any % 3 - 1);
+    return take_instead(in, any >> (limit > 4 ? kind >> 5 : 0));
 }
 
 void take_report(struct input *in, struct report *r)
 {
-    r->first = take(in) < 240 ? (uint8_t) "01Q"[take(in) % 3] : take(in);
+    r->first = (uint8_t)take_instead(in, (uint8_t) "01Q"[take(in) % 3]);
     r->third = (uint8_t)take_in_range(in, '0', 10);
     r->grid5 = (uint8_t)take_in_range(in, 'A', 24);
     r->grid6 = (uint8_t)take_in_range(in, 'A', 24);

@@ -5,12 +5,16 @@
 #include <stddef.h>
 #include <stdint.h>
 
+#include "generator.h"
+
 enum { CALLSIGN_LEN = 6, LOCATOR_LEN = 4, FRAME_LEN = 162, LONGEST = 512 };
 
-/* What is left of the fuzzer's bytes. Past their end all are 0. */
+/* What is left of the fuzzer's bytes. Past their end come random ones, seeded by the bytes: the fuzzer shortens its
+ * inputs as far as it can, and with zeros there the short ones would all be alike. */
 struct input {
     const uint8_t *bytes;
     size_t left;
+    struct generator rest;
 };
 
 struct content {
@@ -29,6 +33,8 @@ struct report {
     int32_t temperature;
     uint32_t voltage, speed, gps;
 };
+
+struct input input_of(const uint8_t *bytes, size_t count);
 
 uint8_t take(struct input *in);
 uint64_t take_number(struct input *in, size_t bytes);
