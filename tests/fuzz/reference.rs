@@ -216,8 +216,8 @@ pub unsafe extern "C" fn reference_repair(
     }
 }
 
-/// The live count of a frame of 162 symbols 0 to 3, for budgets just at it. It is counted through to the end, so the
-/// limit has to be low.
+/// The live count of a frame of 162 symbols 0 to 3, for budgets just at it. It is counted through
+/// to the end, so the limit has to be low.
 ///
 /// # Safety
 #[no_mangle]
