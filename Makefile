@@ -56,5 +56,82 @@ build/time_program: bench/time_program.c bench/spread.c bench/spread.h
 	mkdir -p build
 	$(COMPILE) -o $@ bench/time_program.c bench/spread.c
 
+# Robustness: hostile input on the exports and on the host program, and fuzzing.
+
+.PHONY: hostile fuzz fuzz-smoke fuzz-reference fuzz-reference-covered
+
+test: hostile fuzz-smoke
+
+SANITIZE = -g -fsanitize=address,undefined -fno-sanitize-recover=all
+HOSTILE = tests/c/hostile.c tests/c/hostile_input.c tests/c/exports.c
+HOSTILE_HEADERS = tests/c/hostile_input.h tests/c/exports.h tests/c/generator.h include/wsprcard.h
+
+# Under valgrind and with the sanitizers; it needs valgrind.
+hostile: build/hostile build/hostile_sanitized build/noise build/wsprcard build/wsprcard_sanitized
+	sh tests/hostile.sh
+
+build/hostile: $(HOSTILE) $(HOSTILE_HEADERS) $(CARD)
+	mkdir -p build
+	$(COMPILE) -g -o $@ $(HOSTILE) $(CARD)
+
+build/hostile_sanitized: $(HOSTILE) $(HOSTILE_HEADERS) $(CARD)
+	mkdir -p build
+	$(COMPILE) $(SANITIZE) -o $@ $(HOSTILE) $(CARD)
+
+build/noise: tests/c/noise.c tests/c/generator.h
+	mkdir -p build
+	$(COMPILE) -o $@ tests/c/noise.c
+
+build/wsprcard_sanitized: $(wildcard host/*.c host/*.h) include/wsprcard.h $(CARD)
+	mkdir -p build
+	$(COMPILE) $(SANITIZE) -o $@ $(wildcard host/*.c) $(CARD)
+
+# The fuzzer compares the exports with the independent implementation in Rust. It needs clang with libFuzzer. What it
+# finds is left in build/fuzz_found_*; `build/fuzz FILE` runs it again. FUZZ_CARD may name another library to be fuzzed.
+FUZZ_SECONDS = 60
+FUZZ_CARD = $(CARD)
+FUZZ = tests/fuzz/card.c tests/fuzz/fenced.c tests/fuzz/input.c tests/c/exports.c
+FUZZ_HEADERS = $(wildcard tests/fuzz/*.h) tests/c/exports.h tests/c/generator.h include/wsprcard.h
+FUZZ_INCLUDES = -Itests/fuzz -Itests/c
+REFERENCE = tests/target/fuzz/release/libreference.a
+REFERENCE_COVERED = tests/target/fuzz_covered/release/libreference.a
+CARGO_REFERENCE = cargo build --release --offline --quiet --manifest-path tests/fuzz/Cargo.toml --target-dir
+
+# The counters by which libFuzzer sees which branches of the implementation in Rust an input takes.
+COVERAGE = -Cpasses=sancov-module -Cllvm-args=-sanitizer-coverage-level=4 \
+    -Cllvm-args=-sanitizer-coverage-inline-8bit-counters -Cllvm-args=-sanitizer-coverage-pc-table
+
+# It starts from random inputs, and keeps in build/corpus what led it further.
+fuzz: build/fuzz build/noise
+	mkdir -p build/corpus
+	for seed in 1 2 3 4 5 6 7 8 9 10 11 12 13 14 15 16 17 18 19 20; do \
+	    ./build/noise bytes 256 $$seed > build/corpus/noise_$$seed || exit 1; \
+	done
+	./build/fuzz -max_total_time=$(FUZZ_SECONDS) -max_len=256 -timeout=10 -seed=1 -print_final_stats=1 \
+	    -artifact_prefix=build/fuzz_found_ build/corpus
+
+# The same harness on a fixed number of random inputs, so that it keeps up with the header.
+fuzz-smoke: build/fuzz_smoke
+	./build/fuzz_smoke 1000000
+
+build/fuzz: $(FUZZ) $(FUZZ_HEADERS) $(REFERENCE_COVERED) $(FUZZ_CARD)
+	mkdir -p build
+	clang -std=c11 -Wall -Wextra -O2 -g -fsanitize=fuzzer,undefined -fno-sanitize-recover=all -Iinclude \
+	    $(FUZZ_INCLUDES) -o $@ $(FUZZ) $(FUZZ_CARD) $(REFERENCE_COVERED)
+
+build/fuzz_smoke: tests/fuzz/driver.c $(FUZZ) $(FUZZ_HEADERS) $(REFERENCE) $(FUZZ_CARD)
+	mkdir -p build
+	$(COMPILE) $(FUZZ_INCLUDES) -o $@ tests/fuzz/driver.c $(FUZZ) $(FUZZ_CARD) $(REFERENCE)
+
+$(REFERENCE): fuzz-reference
+
+$(REFERENCE_COVERED): fuzz-reference-covered
+
+fuzz-reference:
+	$(CARGO_REFERENCE) tests/target/fuzz
+
+fuzz-reference-covered:
+	RUSTFLAGS="$(COVERAGE)" $(CARGO_REFERENCE) tests/target/fuzz_covered
+
 clean:
 	rm -rf target build tests/target

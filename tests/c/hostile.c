@@ -1,0 +1,579 @@
+/* Calls the nine exports with hostile input and holds every answer to what the header promises. Each lent buffer is a
+ * block of its own of exactly its length, so that valgrind and the sanitizers see a byte too far. */
+#include <inttypes.h>
+#include <stdio.h>
+#include <stdlib.h>
+#include <string.h>
+
+#include "exports.h"
+#include "hostile_input.h"
+#include "wsprcard.h"
+
+/* The largest place that goes with each refusal; 0 is success. */
+static const uint32_t last_places[REFUSALS] = {[2] = 9, [7] = 161, [8] = 161, [10] = 5, [14] = 8, [15] = 1};
+
+static const struct refusal wrong_length = {1, 0};
+
+/* Which call is being held to its promises. */
+static enum export current;
+static unsigned long round_number;
+
+/* A block of its own, and what it held when it was lent. */
+struct lent {
+    uint8_t *bytes, *before;
+    size_t len;
+};
+
+static void hold(int kept, const char *promise)
+{
+    if (kept)
+        return;
+    printf("hostile: %s in round %lu: broken: %s\n", export_name(current), round_number, promise);
+    exit(1);
+}
+
+static uint8_t *block(const struct content *c)
+{
+    uint8_t *bytes = malloc(c->len);
+
+    if (!bytes && c->len > 0) {
+        puts("hostile: out of memory");
+        exit(1);
+    }
+    if (c->len > 0)
+        memcpy(bytes, c->bytes, c->len);
+    return bytes;
+}
+
+/* An empty buffer is NULL or an empty block. */
+static struct lent lend(struct generator *g, const struct content *c)
+{
+    struct lent l = {NULL, NULL, c->len};
+
+    if (c->len > 0 || draw_once_in(g, 2))
+        l.bytes = block(c);
+    l.before = block(c);
+    return l;
+}
+
+static int is_unchanged(const struct lent *l)
+{
+    return l->len == 0 || memcmp(l->bytes, l->before, l->len) == 0;
+}
+
+/* Whether a callsign and a locator have their lengths. */
+static int fit(const struct lent *callsign, const struct lent *locator)
+{
+    return callsign->len == CALLSIGN_LEN && locator->len == LOCATOR_LEN;
+}
+
+static void give_back(struct lent *l)
+{
+    free(l->bytes);
+    free(l->before);
+}
+
+/* What holds of the refusal and the place of every answer. */
+static void answered(uint32_t refusal, uint32_t place)
+{
+    hold(may_refuse(current, refusal), "it gives only its own refusals");
+    hold(place <= last_places[refusal], "the place is one of the refusal's");
+    hold(refusal != 10 || (place != 1 && place != 2), "refusal 10 has place 0 or 3 to 5");
+    count_answer(current, refusal);
+}
+
+/* Where it is known from the input what is to be refused. */
+static void hold_refused(uint32_t refusal, uint32_t place, struct refusal expected)
+{
+    hold(refusal == expected.number, "it refuses by the number that the input calls for, and right input never");
+    hold(place == expected.place, "the place is that of the first fault");
+}
+
+/* Read-only buffers; and all buffers where the call is refused. */
+static void hold_unchanged(const struct lent *one, const struct lent *other)
+{
+    hold(is_unchanged(one) && is_unchanged(other), "a buffer that is only read, or of a refused call, isn't written");
+}
+
+/* The first symbol that is above 3; FRAME_LEN if none is. */
+static uint32_t first_large(const uint8_t *frame)
+{
+    uint32_t place = 0;
+
+    while (place < FRAME_LEN && frame[place] <= 3)
+        place++;
+    return place;
+}
+
+/* At how many places this bit of two frames differs: 1 is the sync bit, 2 the data bit. */
+static uint32_t differing(const uint8_t *one, const uint8_t *other, uint8_t bit, uint32_t *first)
+{
+    uint32_t count = 0;
+
+    *first = FRAME_LEN;
+    for (uint32_t i = 0; i < FRAME_LEN; i++) {
+        if (((one[i] ^ other[i]) & bit) == 0)
+            continue;
+        if (count++ == 0)
+            *first = i;
+    }
+    return count;
+}
+
+/* The sync bits of all frames are those of the word 0. */
+static uint32_t sync_wrong(const uint8_t *frame, uint32_t *first)
+{
+    uint8_t zero[FRAME_LEN];
+
+    wspr_write_word(0, zero, FRAME_LEN);
+    return differing(frame, zero, 1, first);
+}
+
+static void hold_frame(const uint8_t *frame)
+{
+    uint32_t first;
+
+    hold(first_large(frame) == FRAME_LEN, "the symbols of a frame are 0 to 3");
+    hold(sync_wrong(frame, &first) == 0, "all frames have the same sync bits");
+}
+
+static void hold_word_of(const uint8_t *callsign, const uint8_t *locator, uint32_t power, uint64_t word)
+{
+    wspr_word w = wspr_pack(callsign, CALLSIGN_LEN, locator, LOCATOR_LEN, power);
+
+    hold(w.refusal == 0 && w.word == word, "the message is packed into the word that it came from");
+}
+
+static void hold_message_of(uint64_t word, const uint8_t *callsign, const uint8_t *locator, uint32_t power)
+{
+    uint8_t own_callsign[CALLSIGN_LEN], own_locator[LOCATOR_LEN];
+    wspr_message m = wspr_unpack(word, own_callsign, CALLSIGN_LEN, own_locator, LOCATOR_LEN);
+
+    hold(m.refusal == 0 && m.power == power, "the word is read as the message that it came from");
+    hold(memcmp(own_callsign, callsign, CALLSIGN_LEN) == 0, "the word has the message's callsign");
+    hold(memcmp(own_locator, locator, LOCATOR_LEN) == 0, "the word has the message's locator");
+}
+
+static void try_pack(struct generator *g)
+{
+    struct message_input m;
+    struct lent callsign, locator;
+    wspr_word w;
+
+    draw_message(g, &m);
+    callsign = lend(g, &m.callsign);
+    locator = lend(g, &m.locator);
+    w = wspr_pack(callsign.bytes, callsign.len, locator.bytes, locator.len, m.power);
+    answered(w.refusal, w.place);
+    hold_unchanged(&callsign, &locator);
+    hold_refused(w.refusal, w.place, message_refusal(&m));
+    if (w.refusal) {
+        hold(w.word == 0, "a refusal's word is 0");
+    } else {
+        hold(w.word < WORDS, "a word is below 2^50");
+        hold_message_of(w.word, callsign.bytes, locator.bytes, m.power);
+    }
+    give_back(&callsign);
+    give_back(&locator);
+}
+
+static void try_unpack(struct generator *g)
+{
+    struct content c, l;
+    struct lent callsign, locator;
+    uint64_t word = draw_word(g);
+    wspr_message m;
+
+    draw_buffer(g, &c, CALLSIGN_LEN);
+    draw_buffer(g, &l, LOCATOR_LEN);
+    callsign = lend(g, &c);
+    locator = lend(g, &l);
+    m = wspr_unpack(word, callsign.bytes, callsign.len, locator.bytes, locator.len);
+    answered(m.refusal, m.place);
+    hold_refused(m.refusal, m.place, fit(&callsign, &locator) ? word_refusal(word) : wrong_length);
+    if (m.refusal) {
+        hold_unchanged(&callsign, &locator);
+        hold(m.power == 0, "a refusal's power is 0");
+    } else {
+        hold(is_power(m.power), "the power is one of the 19");
+        hold_word_of(callsign.bytes, locator.bytes, m.power, word);
+    }
+    give_back(&callsign);
+    give_back(&locator);
+}
+
+static void try_write_word(struct generator *g)
+{
+    struct content f;
+    struct lent frame;
+    uint64_t word = draw_word(g);
+    wspr_written w;
+
+    draw_buffer(g, &f, FRAME_LEN);
+    frame = lend(g, &f);
+    w = wspr_write_word(word, frame.bytes, frame.len);
+    answered(w.refusal, w.place);
+    hold_refused(w.refusal, w.place, f.len == FRAME_LEN ? (struct refusal){word < WORDS ? 0 : 4, 0} : wrong_length);
+    if (w.refusal) {
+        hold_unchanged(&frame, &frame);
+    } else {
+        wspr_word back = wspr_read_word(frame.bytes, FRAME_LEN);
+
+        hold_frame(frame.bytes);
+        hold(back.refusal == 0 && back.word == word, "the frame is read as the word that it was written from");
+    }
+    give_back(&frame);
+}
+
+/* The frame that was written is read as this message. */
+static void hold_message_in(const uint8_t *frame, const struct message_input *m)
+{
+    uint8_t callsign[CALLSIGN_LEN], locator[LOCATOR_LEN];
+    wspr_message back = wspr_read_message(frame, FRAME_LEN, callsign, CALLSIGN_LEN, locator, LOCATOR_LEN);
+
+    hold(back.refusal == 0 && back.power == m->power, "the frame is read as the message that it was written from");
+    hold(memcmp(callsign, m->callsign.bytes, CALLSIGN_LEN) == 0, "the frame has the message's callsign");
+    hold(memcmp(locator, m->locator.bytes, LOCATOR_LEN) == 0, "the frame has the message's locator");
+}
+
+static void try_write_message(struct generator *g)
+{
+    struct message_input m;
+    struct content f;
+    struct lent callsign, locator, frame;
+    wspr_written w;
+
+    draw_message(g, &m);
+    draw_buffer(g, &f, FRAME_LEN);
+    callsign = lend(g, &m.callsign);
+    locator = lend(g, &m.locator);
+    frame = lend(g, &f);
+    w = wspr_write_message(callsign.bytes, callsign.len, locator.bytes, locator.len, m.power, frame.bytes, frame.len);
+    answered(w.refusal, w.place);
+    hold_unchanged(&callsign, &locator);
+    hold_refused(w.refusal, w.place, f.len == FRAME_LEN ? message_refusal(&m) : wrong_length);
+    if (w.refusal) {
+        hold_unchanged(&frame, &frame);
+    } else {
+        hold_frame(frame.bytes);
+        hold_message_in(frame.bytes, &m);
+    }
+    give_back(&callsign);
+    give_back(&locator);
+    give_back(&frame);
+}
+
+/* What the refusals of strict reading say of the symbols. */
+static void hold_frame_refusal(const struct lent *frame, uint32_t refusal, uint32_t place)
+{
+    uint32_t first;
+
+    if (refusal == 7)
+        hold(place == first_large(frame->bytes), "refusal 7 has the place of the first symbol above 3");
+    if (refusal != 8)
+        return;
+    hold(first_large(frame->bytes) == FRAME_LEN, "refusal 7 goes before refusal 8");
+    sync_wrong(frame->bytes, &first);
+    hold(place == first, "refusal 8 has the place of the first wrong sync bit");
+}
+
+/* What is known of the refusal where the frame came from a word. */
+static void hold_strict(const struct frame_input *f, uint32_t refusal)
+{
+    int clean = f->of_word && f->symbols.len == FRAME_LEN && !f->spoiled;
+
+    if (clean && f->sync_wrong > 0)
+        hold(refusal == 8, "a wrong sync bit is refused 8");
+    if (clean && f->sync_wrong == 0 && (f->flips == 1 || f->flips == 2))
+        hold(refusal == 9, "one or two flipped data bits are refused 9");
+}
+
+static void try_read_word(struct generator *g)
+{
+    struct frame_input f;
+    struct lent frame;
+    wspr_word w;
+
+    draw_frame(g, &f);
+    frame = lend(g, &f.symbols);
+    w = wspr_read_word(frame.bytes, frame.len);
+    answered(w.refusal, w.place);
+    hold_unchanged(&frame, &frame);
+    hold((w.refusal == 1) == (frame.len != FRAME_LEN), "refusal 1 is that of a wrong length");
+    hold_frame_refusal(&frame, w.refusal, w.place);
+    hold_strict(&f, w.refusal);
+    if (w.refusal) {
+        int whole = f.of_word && f.flips + f.sync_wrong == 0 && !f.spoiled && frame.len == FRAME_LEN;
+
+        hold(w.word == 0, "a refusal's word is 0");
+        hold(!whole, "a word's own frame is read");
+    } else {
+        uint8_t own[FRAME_LEN];
+        wspr_written back = wspr_write_word(w.word, own, FRAME_LEN);
+
+        hold(w.word < WORDS, "a word is below 2^50");
+        hold(back.refusal == 0 && memcmp(own, frame.bytes, FRAME_LEN) == 0, "the word is written as the frame read");
+    }
+    give_back(&frame);
+}
+
+static void hold_message_written(const struct lent *callsign, const struct lent *locator, uint32_t power,
+                                 const uint8_t *frame)
+{
+    uint8_t own[FRAME_LEN];
+    wspr_written w = wspr_write_message(callsign->bytes, callsign->len, locator->bytes, locator->len, power, own,
+                                        FRAME_LEN);
+
+    hold(is_power(power), "the power is one of the 19");
+    hold(w.refusal == 0 && memcmp(own, frame, FRAME_LEN) == 0, "the message is written as the frame read");
+}
+
+/* First the frame is refused as it is in reading its word; then the lent lengths count, then the word. */
+static void hold_chain(const struct lent *frame, int lent_fit, wspr_message m)
+{
+    wspr_word w = wspr_read_word(frame->bytes, frame->len);
+
+    if (w.refusal)
+        hold_refused(m.refusal, m.place, (struct refusal){w.refusal, w.place});
+    else
+        hold_refused(m.refusal, m.place, lent_fit ? word_refusal(w.word) : wrong_length);
+}
+
+static void try_read_message(struct generator *g)
+{
+    struct frame_input f;
+    struct content c, l;
+    struct lent frame, callsign, locator;
+    wspr_message m;
+
+    draw_frame(g, &f);
+    draw_buffer(g, &c, CALLSIGN_LEN);
+    draw_buffer(g, &l, LOCATOR_LEN);
+    frame = lend(g, &f.symbols);
+    callsign = lend(g, &c);
+    locator = lend(g, &l);
+    m = wspr_read_message(frame.bytes, frame.len, callsign.bytes, callsign.len, locator.bytes, locator.len);
+    answered(m.refusal, m.place);
+    hold_unchanged(&frame, &frame);
+    hold_chain(&frame, fit(&callsign, &locator), m);
+    hold_strict(&f, m.refusal);
+    if (m.refusal) {
+        hold_unchanged(&callsign, &locator);
+        hold(m.power == 0, "a refusal's power is 0");
+    } else {
+        hold_message_written(&callsign, &locator, m.power, frame.bytes);
+    }
+    give_back(&frame);
+    give_back(&callsign);
+    give_back(&locator);
+}
+
+/* What is promised of a repaired word: its own frame differs from the given one by just the counts of the answer. */
+static void hold_repaired(const uint8_t *frame, uint32_t limit, uint32_t budget, wspr_repaired r)
+{
+    uint8_t own[FRAME_LEN];
+    uint32_t first;
+    wspr_written w = wspr_write_word(r.word, own, FRAME_LEN);
+    wspr_repaired again = wspr_repair(frame, FRAME_LEN, r.disagreements, budget);
+
+    hold(w.refusal == 0, "a repaired word is below 2^50");
+    hold(r.disagreements <= limit, "the disagreements are within the limit");
+    hold(r.live >= 81 && r.live <= budget, "the live count is 81 to the budget");
+    hold(differing(own, frame, 2, &first) == r.disagreements, "the data bits differ in as many as the disagreements");
+    hold(differing(own, frame, 1, &first) == r.sync_wrong, "the wrong sync bits are all counted");
+    hold(again.refusal == 0 && again.word == r.word, "a limit of just the disagreements gives the same word");
+    hold(again.live <= r.live, "a lower limit has no more live prefixes");
+}
+
+/* The live count is the least budget that is enough. */
+static void hold_live(const uint8_t *frame, uint32_t limit, wspr_repaired r)
+{
+    wspr_repaired enough = wspr_repair(frame, FRAME_LEN, limit, r.live);
+    wspr_repaired less = wspr_repair(frame, FRAME_LEN, limit, r.live - 1);
+
+    hold(enough.refusal == 0 && enough.word == r.word, "a budget of the live count is enough");
+    hold(less.refusal == 16, "a budget below the live count is refused 16");
+}
+
+/* What is promised of two flipped data bits at most; and that a known word is never passed over for a farther one. */
+static void hold_healed(const struct frame_input *f, uint32_t limit, uint32_t budget, wspr_repaired r)
+{
+    if (f->flips <= 2 && limit == 2 && budget >= 16000 && budget <= 65536)
+        hold(r.refusal == 0 && r.word == f->word && r.disagreements == f->flips, "two flipped data bits are healed");
+    if (f->flips <= limit)
+        hold(r.refusal != 17, "a word within the limit isn't refused 17");
+    if (r.refusal == 0)
+        hold(r.disagreements <= f->flips, "the nearest word is as near as the one that was sent");
+}
+
+static void hold_repair_refusal(const struct lent *frame, uint32_t limit, uint32_t budget, wspr_repaired r)
+{
+    int out_of_range = limit > 12 || budget == 0 || budget > 65536;
+
+    hold((r.refusal == 1) == (frame->len != FRAME_LEN), "refusal 1 is that of a wrong length");
+    hold((r.refusal == 15) == (frame->len == FRAME_LEN && out_of_range), "refusal 15 is that of limit and budget");
+    if (r.refusal == 15)
+        hold(r.place == (limit <= 12), "refusal 15 has place 0 for the limit, 1 for the budget");
+    if (r.refusal == 0)
+        hold(first_large(frame->bytes) == FRAME_LEN, "a symbol above 3 isn't repaired");
+    hold_frame_refusal(frame, r.refusal, r.place);
+    if (r.refusal)
+        hold(r.word == 0 && r.disagreements == 0 && r.live == 0 && r.sync_wrong == 0, "a refusal's numbers are 0");
+}
+
+static void try_repair(struct generator *g)
+{
+    struct frame_input f;
+    struct lent frame;
+    uint32_t limit = draw_limit(g), budget = draw_budget(g);
+    wspr_repaired r;
+
+    draw_frame(g, &f);
+    frame = lend(g, &f.symbols);
+    r = wspr_repair(frame.bytes, frame.len, limit, budget);
+    answered(r.refusal, r.place);
+    hold_unchanged(&frame, &frame);
+    hold_repair_refusal(&frame, limit, budget, r);
+    if (f.of_word && !f.spoiled && frame.len == FRAME_LEN)
+        hold_healed(&f, limit, budget, r);
+    if (r.refusal == 0) {
+        hold_repaired(frame.bytes, limit, budget, r);
+        hold_live(frame.bytes, limit, r);
+    }
+    give_back(&frame);
+}
+
+/* The message of a report is read as the low ends of its steps. */
+static void hold_report_in(const struct report_input *r, const struct lent *callsign, const struct lent *locator,
+                           uint32_t power)
+{
+    u4b_reading t = u4b_read(callsign->bytes, callsign->len, locator->bytes, locator->len, power);
+
+    hold(is_power(power), "the power is one of the 19");
+    hold(t.refusal == 0, "the message of a report is telemetry");
+    hold(t.first == r->first && t.third == r->third, "the channel is read back");
+    hold(t.grid5 == r->grid5 && t.grid6 == r->grid6, "the sub-square is read back");
+    hold(t.altitude == r->altitude / 20 * 20, "the altitude is read as the low end of its step");
+    hold(t.temperature == r->temperature / 10, "the temperature is read as its whole degrees");
+    hold(t.voltage == r->voltage / 50 * 50, "the voltage is read as the low end of its step");
+    hold(t.speed == r->speed / 20 * 2, "the speed is read as the low end of its step");
+    hold(t.gps == r->gps, "GPS is read back");
+}
+
+static void try_u4b_write(struct generator *g)
+{
+    struct report_input r;
+    struct content c, l;
+    struct lent callsign, locator;
+    wspr_message m;
+
+    draw_report(g, &r);
+    draw_buffer(g, &c, CALLSIGN_LEN);
+    draw_buffer(g, &l, LOCATOR_LEN);
+    callsign = lend(g, &c);
+    locator = lend(g, &l);
+    m = u4b_write(r.first, r.third, r.grid5, r.grid6, r.altitude, r.temperature, r.voltage, r.speed, r.gps,
+                  callsign.bytes, callsign.len, locator.bytes, locator.len);
+    answered(m.refusal, m.place);
+    hold_refused(m.refusal, m.place, fit(&callsign, &locator) ? report_refusal(&r) : wrong_length);
+    if (m.refusal) {
+        hold_unchanged(&callsign, &locator);
+        hold(m.power == 0, "a refusal's power is 0");
+    } else {
+        hold_report_in(&r, &callsign, &locator, m.power);
+    }
+    give_back(&callsign);
+    give_back(&locator);
+}
+
+/* What was read is in the ranges of reading, and is written as the same message again. */
+static void hold_reading(const struct message_input *m, u4b_reading t)
+{
+    uint8_t callsign[CALLSIGN_LEN], locator[LOCATOR_LEN];
+    wspr_message back = u4b_write(t.first, t.third, t.grid5, t.grid6, t.altitude, t.temperature * 10, t.voltage,
+                                  t.speed * 10, t.gps, callsign, CALLSIGN_LEN, locator, LOCATOR_LEN);
+
+    hold(t.altitude <= 21340 && t.altitude % 20 == 0, "the altitude is 0 to 21,340 in steps of 20");
+    hold(t.temperature >= -50 && t.temperature <= 39, "the temperature is -50 to 39");
+    hold(t.voltage >= 3000 && t.voltage <= 4950 && t.voltage % 50 == 0, "the voltage is 3,000 to 4,950 in steps of 50");
+    hold(t.speed <= 82 && t.speed % 2 == 0, "the speed is 0 to 82 in steps of 2");
+    hold(back.refusal == 0 && back.power == m->power, "what is read is written as the same message");
+    hold(memcmp(callsign, m->callsign.bytes, CALLSIGN_LEN) == 0, "what is read is written as the same callsign");
+    hold(memcmp(locator, m->locator.bytes, LOCATOR_LEN) == 0, "what is read is written as the same locator");
+}
+
+/* The first character that telemetry never has: it must be 0, 1 or Q, and 3 to 5 are no spaces. CALLSIGN_LEN if all
+ * are telemetry's. */
+static uint32_t first_not_telemetry(const uint8_t *callsign)
+{
+    uint32_t place = 3;
+
+    if (callsign[0] != '0' && callsign[0] != '1' && callsign[0] != 'Q')
+        return 0;
+    while (place < CALLSIGN_LEN && callsign[place] != ' ')
+        place++;
+    return place;
+}
+
+static void hold_telemetry_refusal(const struct message_input *m, uint32_t refusal, uint32_t place)
+{
+    struct refusal expected = message_refusal(m);
+
+    if (expected.number == 0 && first_not_telemetry(m->callsign.bytes) < CALLSIGN_LEN)
+        expected = (struct refusal){10, first_not_telemetry(m->callsign.bytes)};
+    if (expected.number)
+        hold_refused(refusal, place, expected);
+    else
+        hold(refusal == 0 || refusal >= 11, "a telemetry callsign is refused 11, 12 or 13 only");
+}
+
+static void try_u4b_read(struct generator *g)
+{
+    struct message_input m;
+    struct lent callsign, locator;
+    u4b_reading t;
+
+    draw_telemetry_message(g, &m);
+    callsign = lend(g, &m.callsign);
+    locator = lend(g, &m.locator);
+    t = u4b_read(callsign.bytes, callsign.len, locator.bytes, locator.len, m.power);
+    answered(t.refusal, t.place);
+    hold_unchanged(&callsign, &locator);
+    hold_telemetry_refusal(&m, t.refusal, t.place);
+    if (t.refusal) {
+        hold((t.first | t.third | t.grid5 | t.grid6) == 0, "a refusal's characters are 0");
+        hold((t.altitude | (uint32_t)t.temperature | t.voltage | t.speed | t.gps) == 0, "a refusal's numbers are 0");
+    } else {
+        hold_reading(&m, t);
+    }
+    give_back(&callsign);
+    give_back(&locator);
+}
+
+static void (*const tries[EXPORTS])(struct generator *g) = {
+    [PACK] = try_pack,
+    [UNPACK] = try_unpack,
+    [WRITE_WORD] = try_write_word,
+    [WRITE_MESSAGE] = try_write_message,
+    [READ_WORD] = try_read_word,
+    [READ_MESSAGE] = try_read_message,
+    [REPAIR] = try_repair,
+    [U4B_WRITE] = try_u4b_write,
+    [U4B_READ] = try_u4b_read,
+};
+
+static void try_all(struct generator *g)
+{
+    for (current = 0; current < EXPORTS; current++)
+        tries[current](g);
+}
+
+int main(int argc, char **argv)
+{
+    unsigned long rounds = argc > 1 ? strtoul(argv[1], NULL, 10) : 0;
+    struct generator g = {argc > 2 ? strtoull(argv[2], NULL, 10) : 1};
+
+    for (round_number = 1; round_number <= rounds; round_number++)
+        try_all(&g);
+    return report_answers() ? 0 : 1;
+}
