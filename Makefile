@@ -10,14 +10,26 @@ INTERFACE = messages frames repair telemetry
 # The files of the benchmark: the calls by hand in C, and what measures them beside the library's.
 BENCH = bench calls inputs spread symbols message frame search telemetry
 
-.PHONY: all run test bench library program clean
+.PHONY: all run install test hostile fuzz fuzz-smoke fuzz-reference fuzz-reference-covered bench library program clean
 
 # The host program, build/wsprcard, over the library.
 all: build/wsprcard
 
+# What the desk would see of the frames of host/sample, read and repaired.
+run: build/wsprcard
+	./host/desk build/wsprcard
+
+PREFIX = /usr/local
+install: build/wsprcard
+	install -D build/wsprcard $(DESTDIR)$(PREFIX)/bin/wsprcard
+	install -D -m 644 host/wsprcard.1 $(DESTDIR)$(PREFIX)/share/man/man1/wsprcard.1
+	install -D -m 644 include/wsprcard.h $(DESTDIR)$(PREFIX)/include/wsprcard.h
+	install -D -m 644 $(CARD) $(DESTDIR)$(PREFIX)/lib/libwsprcard.a
+
 # The outside tests, then the gate, whose last line is 'N passed, 0 failed'. The benchmark is built, so that it keeps up
 # with the header, and not run.
-test: build/wsprcard $(INTERFACE:%=build/%) build/bench build/time_program program
+test: $(INTERFACE:%=build/%) build/bench build/time_program program hostile fuzz-smoke
+	./host/desk build/wsprcard | diff host/sample.stdout -
 	for name in $(INTERFACE); do \
 	    ./build/$$name > build/$$name.stdout && diff tests/c/$$name.stdout build/$$name.stdout || exit 1; \
 	done
@@ -26,7 +38,7 @@ test: build/wsprcard $(INTERFACE:%=build/%) build/bench build/time_program progr
 
 # The library and the same work by hand in C, side by side in one run; then whole runs of WSJT-X's programs, where it is
 # installed, and of the host's.
-bench: build/bench build/time_program
+bench: build/bench build/time_program build/wsprcard
 	./build/bench
 	./bench/wsjtx
 
@@ -57,10 +69,6 @@ build/time_program: bench/time_program.c bench/spread.c bench/spread.h
 	$(COMPILE) -o $@ bench/time_program.c bench/spread.c
 
 # Robustness: hostile input on the exports and on the host program, and fuzzing.
-
-.PHONY: hostile fuzz fuzz-smoke fuzz-reference fuzz-reference-covered
-
-test: hostile fuzz-smoke
 
 SANITIZE = -g -fsanitize=address,undefined -fno-sanitize-recover=all
 HOSTILE = tests/c/hostile.c tests/c/hostile_input.c tests/c/exports.c

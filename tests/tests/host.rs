@@ -517,7 +517,7 @@ const SEEN_AT_ENDS: &[Seen] = &[
     ("telemetry --write", 14, 5),
 ];
 
-/// One carriage return goes with the newline behind it; any other belongs to its line.
+/// One carriage return goes with the end of its line; any other belongs to the line.
 #[test]
 fn lines_end_where_the_manual_page_says() {
     let mut counts = Counts::new();
@@ -531,8 +531,8 @@ fn lines_end_where_the_manual_page_says() {
         let answer = answers(&joined([&right])).concat();
         assert!(!answer.starts_with(b"refused"), "{arguments:?}");
         assert_eq!(answers(&right), [&answer[..]]);
-        assert_eq!(answers(&[&right, &b"\r\n"[..], &right, b"\n"].concat()), [&answer[..]; 2]);
-        for refused in [b"\r".as_slice(), b"\r\r\n", b"\0", b"\0\n", b"\r \n", b"\n\r"] {
+        assert_eq!(answers(&[&right, &b"\r\n"[..], &right, b"\r"].concat()), [&answer[..]; 2]);
+        for refused in [b"\r\r\n".as_slice(), b"\r\r", b"\0", b"\0\n", b"\r \n", b"\n\r"] {
             let input = [&right, refused].concat();
             let last = answers(&input).pop().unwrap();
             assert!(last.starts_with(b"refused"), "{arguments:?} {}", input.escape_ascii());

@@ -7,6 +7,9 @@ use super::telemetry::{self, Telemetry};
 use super::Refusal;
 use std::collections::BTreeMap;
 
+/// A line with more bytes is refused, whatever it holds.
+const LONGEST_LINE: usize = 256;
+
 #[derive(Clone, Copy, Debug, PartialEq, Eq)]
 pub enum Command {
     Encode,
@@ -106,10 +109,13 @@ pub fn answers<'a>(
     call: &'a Call,
     input: &'a [u8],
 ) -> impl Iterator<Item = Result<Answer, Refusal>> + 'a {
-    input.split_inclusive(|&byte| byte == b'\n').map(|line| match line {
-        [line @ .., b'\r', b'\n'] => answer(call.command, line),
-        [line @ .., b'\n'] => answer(call.command, line),
-        last => answer(call.command, last),
+    input.split_inclusive(|&byte| byte == b'\n').map(|line| {
+        let line = line.strip_suffix(b"\n").unwrap_or(line);
+        let line = line.strip_suffix(b"\r").unwrap_or(line);
+        if line.len() > LONGEST_LINE {
+            return Err(Refusal { number: 1, place: 0 });
+        }
+        answer(call.command, line)
     })
 }
 
