@@ -4,8 +4,8 @@ ghost use Prim.Native.Nat.{_≤_};
 ghost use lib.ListN.{length};
 ghost use Rattle.frame.specs.Symbols.{frameOf, receivedBits, wrongSyncIn};
 ghost use Rattle.frame.specs.Answer.{firstLarge, firstWrongSync, wordOfData};
-use message::Packed;
 use super::sync::sync_vector;
+use message::Packed;
 use refusal::NO_WORD;
 use refusal::Refusal;
 

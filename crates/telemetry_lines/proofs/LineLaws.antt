@@ -5,19 +5,18 @@ use native.Mathlib.Numerals.{add-one}
 use native.Mathlib.Omega.{arith}
 use mathlib.Core.Bool.{true, false, _&&_}
 use mathlib.Core.List.{List, [], _∷_, _++_}
-use lib.Dec.{eqb, leb}
+use lib.Dec.{eqb}
 use lib.ListN.{length, getD, take, drop, set, length-take, length-append}
 use lib.Seq.{length-take-le, take-suc-set, take-take, take-all, take-append-le}
-use borrow.Author.Tests.{leb-true, eqb-true, eq-eqb, ne-eqb}
+use borrow.Author.Tests.{eqb-true, eq-eqb, ne-eqb}
 use Rattle.basics.specs.Test.{between}
-use Rattle.basics.proofs.Choice.{both-true, below-or-not}
+use Rattle.basics.proofs.Choice.{both-true, between-range, below-or-not}
 use Rattle.refusal.specs.Refusals.{refusal, wrongLength}
 use Rattle.telemetry.specs.Answer.{decoded}
 use Rattle.telemetry.specs.declared.Decoded.{Decoded}
 use Rattle.telemetry_lines.specs.Text.{space}
 use Rattle.telemetry_lines.specs.Line.{hasForm, callsignIn, locatorIn, powerIn, lineAnswer, lineText}
-use Rattle.telemetry_lines.specs.Stream.{mostKept}
-use Rattle.telemetry_lines.specs.Buffer.{heldBy}
+use Rattle.telemetry_lines.specs.Stream.{mostKept, heldBy}
 use Rattle.telemetry_lines.specs.declared.line.Line.{Line}
 
 -- ---- The form
@@ -48,11 +47,6 @@ pub record Formed (line : List ℕ) : Type 0 where
   pub ones-low : 48 ≤ getD line 13 0
   pub ones-high : getD line 13 0 ≤ 57
 
-digit : (b : ℕ) → between 48 57 b ≡ true → (48 ≤ b) × (b ≤ 57)
-digit b e =
-    let t = both-true (leb 48 b) (leb b 57) e in
-    (leb-true 48 b (t .0), leb-true b 57 (t .1))
-
 pub formed : (line : List ℕ) → hasForm line ≡ true → Formed line
 unfolding hasForm
 formed line e =
@@ -60,8 +54,8 @@ formed line e =
     let tens = both-true _ (between 48 57 (getD line 12 0)) (ones .0) in
     let second = both-true _ (eqb (getD line 11 0) space) (tens .0) in
     let first = both-true (eqb (length line) 14) _ (second .0) in
-    let d = digit (getD line 12 0) (tens .1) in
-    let u = digit (getD line 13 0) (ones .1) in
+    let d = between-range 48 57 (getD line 12 0) (tens .1) in
+    let u = between-range 48 57 (getD line 13 0) (ones .1) in
     record {
       long = eqb-true (length line) 14 (first .0);
       tens-low = d .0;
@@ -83,7 +77,7 @@ answer-formed line e = rw e
 -- ---- The bytes kept
 
 -- A longer line than those kept has the same answer as they have.
-pub kept-answer : (line : List ℕ) → lineAnswer (take mostKept line) ≡ lineAnswer line
+kept-answer : (line : List ℕ) → lineAnswer (take mostKept line) ≡ lineAnswer line
 kept-answer line =
     below-or-not (length line) 16
     (λ h. ap lineAnswer (take-all mostKept line (omega arith)))

@@ -3,7 +3,7 @@ use mathlib.Core.Path.{_≡_, refl, sym, ap, _∙_}
 use Prim.Native.Nat.{ℕ, _+_, _*_, _≤_, _<_}
 use native.Mathlib.Numerals.{add-one}
 use native.Mathlib.Omega.{arith}
-use mathlib.Core.List.{List, [], _∷_, _++_, append-assoc, append-nil}
+use mathlib.Core.List.{List, [], _∷_, _++_, append-assoc, append-nil, flatten}
 use lib.Dec.{eqb}
 use lib.ListN.{length, getD, take, length-append}
 use lib.Seq.{take-suc, take-all, take-take, length-take-le}
@@ -11,7 +11,7 @@ use borrow.Author.Tests.{eq-eqb, ne-eqb}
 use Rattle.basics.proofs.Choice.{by-test, cond-both}
 use Rattle.telemetry_lines.specs.Text.{newline, answerText, header, longestLine}
 use Rattle.telemetry_lines.specs.Line.{lineAnswer, lineText}
-use Rattle.telemetry_lines.specs.Stream.{mostKept, lineAfter, outputAfter, lastText, outputOf, outputInParts, joined}
+use Rattle.telemetry_lines.specs.Stream.{mostKept, lineAfter, outputAfter, lastText, outputOf, outputInParts}
 use Rattle.telemetry_lines.specs.Buffer.{Put}
 use Rattle.telemetry_lines.proofs.PutLaws.{put-none, put-then, put-length}
 use Rattle.telemetry_lines.proofs.TextLaws.{length-answer}
@@ -19,7 +19,7 @@ use Rattle.telemetry_lines.proofs.LineLaws.{kept-text, kept-more}
 
 -- ---- Two parts, one after the other
 
-pub line-cut : (line xs ys : List ℕ) → lineAfter line (xs ++ ys) ≡ lineAfter (lineAfter line xs) ys
+line-cut : (line xs ys : List ℕ) → lineAfter line (xs ++ ys) ≡ lineAfter (lineAfter line xs) ys
 unfolding lineAfter
 line-cut line [] ys = refl
 line-cut line (x ∷ xs) ys =
@@ -27,7 +27,7 @@ line-cut line (x ∷ xs) ys =
     (λ e. rw e (line-cut [] xs ys))
     (λ e. rw e (line-cut (line ++ (x ∷ [])) xs ys))
 
-pub output-cut : (line xs ys : List ℕ) → outputAfter line (xs ++ ys) ≡ outputAfter line xs ++ outputAfter (lineAfter line xs) ys
+output-cut : (line xs ys : List ℕ) → outputAfter line (xs ++ ys) ≡ outputAfter line xs ++ outputAfter (lineAfter line xs) ys
 unfolding lineAfter outputAfter
 output-cut line [] ys = refl
 output-cut line (x ∷ xs) ys =
@@ -59,7 +59,7 @@ length-line : (line : List ℕ) → length (lineText line) ≤ longestLine
 unfolding lineText
 length-line line = length-answer (lineAnswer line)
 
-pub length-output : (line input : List ℕ) → length (outputAfter line input) ≤ longestLine * length input
+length-output : (line input : List ℕ) → length (outputAfter line input) ≤ longestLine * length input
 unfolding outputAfter
 length-output line [] = omega arith
 length-output line (b ∷ bs) =
@@ -150,8 +150,8 @@ kept-last [] = refl
 kept-last (b ∷ bs) = kept-text (b ∷ bs)
 
 parts-from : (line : List ℕ) (parts : List (List ℕ))
-    → outputInParts (take mostKept line) parts ≡ outputAfter line (joined parts) ++ lastText (lineAfter line (joined parts))
-unfolding outputInParts joined lineAfter outputAfter
+    → outputInParts (take mostKept line) parts ≡ outputAfter line (flatten parts) ++ lastText (lineAfter line (flatten parts))
+unfolding outputInParts flatten lineAfter outputAfter
 parts-from line [] = kept-last line
 parts-from line (part ∷ parts) =
     let same = take-take mostKept mostKept line (omega arith) in
@@ -160,13 +160,13 @@ parts-from line (part ∷ parts) =
       same-output (take mostKept line) line part same,
       same-line (take mostKept line) line part same,
       parts-from rest parts,
-      output-cut line part (joined parts),
-      line-cut line part (joined parts),
+      output-cut line part (flatten parts),
+      line-cut line part (flatten parts),
     )
-    (sym (append-assoc (outputAfter line part) (outputAfter rest (joined parts)) (lastText (lineAfter rest (joined parts)))))
+    (sym (append-assoc (outputAfter line part) (outputAfter rest (flatten parts)) (lastText (lineAfter rest (flatten parts)))))
 
 -- However the input is cut into parts, the output is that for the whole.
-pub in-parts : (parts : List (List ℕ)) → header ++ outputInParts [] parts ≡ outputOf (joined parts)
+pub in-parts : (parts : List (List ℕ)) → header ++ outputInParts [] parts ≡ outputOf (flatten parts)
 unfolding outputOf
 in-parts parts = ap (λ (text : List ℕ). header ++ text) (parts-from [] parts)
 

@@ -17,7 +17,7 @@ use Rattle.telemetry.specs.declared.Reading.{Reading}
 use Rattle.telemetry.specs.declared.Decoded.{Decoded}
 use Rattle.refusal.specs.declared.Refusal.{Refusal}
 use Rattle.telemetry_lines.specs.Text.{minus, digitCharacter, decimalOf, decimalText, integerText, lineOf, readingText, refusalText, answerText, longestLine}
-use Rattle.telemetry_lines.specs.Parts.{positionText, firstSensorText, lastSensorText}
+use Rattle.telemetry_lines.specs.Pieces.{positionText, firstSensorText, lastSensorText}
 
 -- ---- Lengths
 

@@ -1,9 +1,8 @@
--- Text in a lent buffer, and the bytes that the program holds of a line.
+-- Text in a lent buffer.
 use mathlib.Core.Path.{_≡_}
 use Prim.Native.Nat.{ℕ, _+_, _≤_}
 use mathlib.Core.List.{List, _++_}
 use lib.ListN.{length, take, drop}
-use Rattle.telemetry_lines.specs.declared.line.Line.{Line}
 
 -- A buffer with a text from a place on, and the rest as it was.
 unfoldable pub placed : List ℕ → ℕ → List ℕ → List ℕ
@@ -14,7 +13,3 @@ pub record Put (before after : List ℕ) (at end : ℕ) (text : List ℕ) : Type
   pub content : after ≡ placed before at text
   pub ends : end ≡ at + length text
   pub room : end ≤ length before
-
--- The bytes that a line in the program's state holds.
-unfoldable pub heldBy : Line → List ℕ
-heldBy line = take (line .length) (line .bytes)

@@ -6,6 +6,7 @@ use lib.Dec.{eqb}
 use lib.ListN.{take}
 use Rattle.telemetry_lines.specs.Text.{newline, header}
 use Rattle.telemetry_lines.specs.Line.{lineText}
+use Rattle.telemetry_lines.specs.declared.line.Line.{Line}
 
 -- "A newline ends a line". Where a line has begun with the given bytes and further input comes: the bytes of the line that is then begun,
 unfoldable pub lineAfter : List ℕ → List ℕ → List ℕ
@@ -32,12 +33,11 @@ outputOf input = header ++ (outputAfter [] input ++ lastText (lineAfter [] input
 abbrev pub mostKept : ℕ
 mostKept = 15
 
+-- The bytes that a line in the program's state holds.
+unfoldable pub heldBy : Line → List ℕ
+heldBy line = take (line .length) (line .bytes)
+
 -- Where the input comes in parts, and of a line that is begun only its first 15 bytes are kept from one part to the next.
 unfoldable pub outputInParts : List ℕ → List (List ℕ) → List ℕ
 outputInParts line [] = lastText line
 outputInParts line (part ∷ parts) = outputAfter line part ++ outputInParts (take mostKept (lineAfter line part)) parts
-
--- The parts, one after the other.
-unfoldable pub joined : List (List ℕ) → List ℕ
-joined [] = []
-joined (part ∷ parts) = part ++ joined parts

@@ -6,7 +6,7 @@ ghost use Prim.Native.Nat.{_+_, _≤_};
 ghost use lib.IntN.{natAbs};
 ghost use lib.ListN.{length};
 ghost use Rattle.telemetry_lines.specs.Text.{space, decimalText, integerText, header, readingText, refusalText, answerText, longestLine};
-ghost use Rattle.telemetry_lines.specs.Parts.{positionText, firstSensorText, lastSensorText};
+ghost use Rattle.telemetry_lines.specs.Pieces.{positionText, firstSensorText, lastSensorText};
 ghost use Rattle.telemetry_lines.specs.Buffer.{Put};
 use refusal::Refusal;
 use telemetry::Decoded;

@@ -1,19 +1,20 @@
 -- Laws of numerals: a digit's value by its byte, one turn of the reading, and the bound of what is read.
-use mathlib.Core.Path.{_≡_, refl, _∙_}
-use Prim.Native.Nat.{ℕ, suc, _+_, _-_, _*_, _^_, _≤_, _<_}
-use native.Mathlib.Nat.{add-zero, zero-add, le-trans, pow-zero, pow-suc, pow-le-pow-left, pow-le-pow-right}
+use mathlib.Core.Path.{_≡_, refl}
+use Prim.Native.Nat.{ℕ, _+_, _-_, _*_, _^_, _≤_, _<_}
+use native.Mathlib.Nat.{le-trans, pow-suc, pow-le-pow-left, pow-le-pow-right}
 use native.Mathlib.Numerals.{add-one}
 use native.Mathlib.Omega.{arith}
-use mathlib.Core.Bool.{cond}
+use mathlib.Core.Bool.{true, cond}
 use mathlib.Core.List.{List, [], _∷_, map}
 use lib.Arith.{digits-lt}
 use lib.Dec.{ltb}
 use lib.ListN.{length, getD, drop, replicate, drop-of-length-le}
 use lib.Seq.{drop-cons}
 use borrow.Author.Tests.{lt-ltb, le-ltb, ltb-true}
-use Rattle.radix.specs.Numeral.{numberFrom, numberOf}
+use Rattle.radix.specs.Numeral.{Digits, numberFrom, numberOf}
+use Rattle.radix.proofs.Laws.{count-same, number-below}
 use Rattle.basics.specs.Test.{between}
-use Rattle.basics.proofs.Choice.{by-test, cond-held, cond-both, between-true, between-below, between-above}
+use Rattle.basics.proofs.Choice.{both-true, by-test, cond-held, cond-both, between-true, between-below, between-above}
 use Rattle.wsjtx_vectors.specs.Number.{digitValue, allDigits, numberIn}
 use Rattle.wsjtx_vectors.specs.declared.number.Number.{Number}
 
@@ -91,17 +92,18 @@ digit-below base n d k h e = rw (add-one, pow-suc) (digits-lt h e)
 pub digits-fit : (base k : ℕ) → base ≤ 16 → k ≤ 16 → base ^ k ≤ 2 ^ 64
 digits-fit base k h e = le-trans (pow-le-pow-left h k) (pow-le-pow-right {n = 16} (omega arith) e)
 
-readFrom-below : (base n k : ℕ) (ds : List ℕ) (v : ℕ) → n < base ^ k → readFrom base n ds ≡ Number.Value v → v < base ^ (k + length ds)
-unfolding readFrom
-readFrom-below base n k [] v h e =
-    let same : n ≡ v = cc in
-    rw (add-zero, ← same) h
-readFrom-below base n k (d ∷ ds) v h e =
-    let held = cond-held (ltb (digitValue d) base) e (λ other. let z : _≡_ {A = ℕ} 0 1 = cc in omega arith) in
-    let next = digit-below base n (digitValue d) k h (ltb-true (digitValue d) base (held .0)) in
-    let count : k + suc (length ds) ≡ k + 1 + length ds = omega arith in
-    rw count (readFrom-below base (n * base + digitValue d) (k + 1) ds v next (held .1))
+digits-of-all : (base : ℕ) (bs : List ℕ) → allDigits base bs ≡ true → Digits (replicate (length bs) base) (map digitValue bs)
+unfolding allDigits Digits
+digits-of-all base [] h = tt
+digits-of-all base (b ∷ bs) h =
+    let tests = both-true (ltb (digitValue b) base) (allDigits base bs) h in
+    (ltb-true (digitValue b) base (tests .0), digits-of-all base bs (tests .1))
 
 -- A number is below the base to the power of its digits' count.
-pub number-below : (base : ℕ) (numeral : List ℕ) (v : ℕ) → numberIn base numeral ≡ Number.Value v → v < base ^ length numeral
-number-below base numeral v e = rw zero-add at (readFrom-below base 0 0 numeral v (rw pow-zero (omega arith)) (readFrom-all base numeral ∙ e))
+pub numeral-below : (base : ℕ) (numeral : List ℕ) (v : ℕ) → numberIn base numeral ≡ Number.Value v → v < base ^ length numeral
+unfolding numberIn
+numeral-below base numeral v e =
+    let radices : List ℕ = replicate (length numeral) base in
+    let held = cond-held (allDigits base numeral) e (λ other. let z : _≡_ {A = ℕ} 0 1 = cc in omega arith) in
+    let same : numberOf radices (map digitValue numeral) ≡ v = cc (held .1) in
+    rw (← same, ← count-same (length numeral) base) (number-below radices (map digitValue numeral) (digits-of-all base numeral (held .0)))

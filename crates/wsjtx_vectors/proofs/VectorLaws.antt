@@ -5,17 +5,17 @@ use native.Mathlib.Nat.{pow-le-pow-right}
 use native.Mathlib.Omega.{arith}
 use mathlib.Core.Bool.{true, false, and-false}
 use mathlib.Core.List.{List, [], _∷_}
-use lib.Dec.{eqb, leb}
+use lib.Dec.{eqb}
 use lib.ListN.{length, getD, length-map}
-use borrow.Author.Tests.{leb-true, eq-eqb, ne-eqb}
-use Rattle.basics.proofs.Choice.{both-true, cond-held, equal-or-not, between-true, between-below, between-above}
+use borrow.Author.Tests.{eq-eqb, ne-eqb}
+use Rattle.basics.proofs.Choice.{cond-held, equal-or-not, between-range, between-true, between-below, between-above}
 use Rattle.basics.specs.Test.{between}
 use Rattle.wsjtx_vectors.specs.Field.{fieldAt}
 use Rattle.wsjtx_vectors.specs.Number.{digitValue, numberIn}
 use Rattle.wsjtx_vectors.specs.Vector.{hasForm, powerIn, wordIn, numbers, vectorIn, symbolsIn}
 use Rattle.wsjtx_vectors.specs.declared.number.Number.{Number}
 use Rattle.wsjtx_vectors.specs.declared.vector.Vector.{Vector}
-use Rattle.wsjtx_vectors.proofs.NumberLaws.{number-below}
+use Rattle.wsjtx_vectors.proofs.NumberLaws.{numeral-below}
 
 -- ---- Numbers of a given length
 
@@ -45,8 +45,8 @@ module _ (text : List ℕ) where
   unfolding powerIn
   power-below v e =
       let held = cond-held (between 1 2 (length text)) e (λ other. let z : _≡_ {A = ℕ} 0 1 = cc in omega arith) in
-      let short = leb-true (length text) 2 (both-true (leb 1 (length text)) (leb (length text) 2) (held .0) .1) in
-      let below : v < 10 ^ length text = number-below 10 text v (held .1) in
+      let short = between-range 1 2 (length text) (held .0) .1 in
+      let below : v < 10 ^ length text = numeral-below 10 text v (held .1) in
       let hundred : 10 ^ length text ≤ 10 ^ 2 = pow-le-pow-right {n = 10} (omega arith) short in
       omega arith
 

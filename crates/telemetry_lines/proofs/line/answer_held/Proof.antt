@@ -1,11 +1,11 @@
 -- `telemetry_lines::line::answer_held` meets its contract: the bytes held are lent.
 -- Assumes nothing.
+use Rattle.telemetry_lines.specs.Stream.{heldBy}
 use mathlib.Core.Path.{_≡_, sym}
 use native.Mathlib.Omega.{arith}
 use lib.ListN.{length}
 use lib.Seq.{length-take-le}
 use borrow.Author.Needs.{needs}
-use Rattle.telemetry_lines.specs.Buffer.{heldBy}
 use Rattle.telemetry_lines.proofs.line.answer_held.Statement.{statement}
 use Rattle.telemetry_lines.proofs.line.answer_held.Tie as tie
 

@@ -8,44 +8,28 @@ use Rattle.telemetry_lines.proofs.line.power_in.Statement.{statement}
 use Rattle.telemetry_lines.proofs.line.power_in.Tie as tie
 
 shared-slice-read-result : tie.Need-shared-slice-read-result
-shared-slice-read-result c =
-    let s = c .before in
-    omega (arith, formed (s .args .line .now) (s .pre))
+shared-slice-read-result c = omega (arith, formed (c .before .args .line .now) (c .before .pre))
 
 sub-result : tie.Need-sub-result
-sub-result c =
-    let s = c .before in
-    omega (arith, formed (s .args .line .now) (s .pre))
+sub-result c = omega (arith, formed (c .before .args .line .now) (c .before .pre))
 
 cast-result : tie.Need-cast-result
-cast-result c =
-    let s = c .before in
-    omega (arith, formed (s .args .line .now) (s .pre))
+cast-result c = omega (arith, formed (c .before .args .line .now) (c .before .pre))
 
 mul-result : tie.Need-mul-result
-mul-result c =
-    let s = c .before in
-    omega (arith, formed (s .args .line .now) (s .pre))
+mul-result c = omega (arith, formed (c .before .args .line .now) (c .before .pre))
 
 shared-slice-read-result-2 : tie.Need-shared-slice-read-result-2
-shared-slice-read-result-2 c =
-    let s = c .before .before in
-    omega (arith, formed (s .args .line .now) (s .pre))
+shared-slice-read-result-2 c = omega (arith, formed (c .before .before .args .line .now) (c .before .before .pre))
 
 sub-result-2 : tie.Need-sub-result-2
-sub-result-2 c =
-    let s = c .before .before in
-    omega (arith, formed (s .args .line .now) (s .pre))
+sub-result-2 c = omega (arith, formed (c .before .before .args .line .now) (c .before .before .pre))
 
 cast-result-2 : tie.Need-cast-result-2
-cast-result-2 c =
-    let s = c .before .before in
-    omega (arith, formed (s .args .line .now) (s .pre))
+cast-result-2 c = omega (arith, formed (c .before .before .args .line .now) (c .before .before .pre))
 
 add-result : tie.Need-add-result
-add-result c =
-    let s = c .before .before in
-    omega (arith, formed (s .args .line .now) (s .pre))
+add-result c = omega (arith, formed (c .before .before .args .line .now) (c .before .before .pre))
 
 returns : tie.Need-returns
 unfolding powerIn

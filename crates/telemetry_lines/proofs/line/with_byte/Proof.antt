@@ -1,10 +1,10 @@
 -- `telemetry_lines::line::with_byte` meets its contract: a byte is stored after those held, where there is room for it.
 -- Assumes nothing.
+use Rattle.telemetry_lines.specs.Stream.{heldBy}
 use mathlib.Core.Path.{_≡_}
 use native.Mathlib.Omega.{arith}
 use lib.ListN.{length}
 use borrow.Author.Needs.{needs}
-use Rattle.telemetry_lines.specs.Buffer.{heldBy}
 use Rattle.telemetry_lines.proofs.LineLaws.{held-full, held-more}
 use Rattle.telemetry_lines.proofs.line.with_byte.Statement.{statement}
 use Rattle.telemetry_lines.proofs.line.with_byte.Tie as tie

@@ -6,7 +6,7 @@ use mir.Facts.{toZ-ofZ}
 use mir.Syntax.{w32}
 use mir.Val.{toZ, ofZ}
 use borrow.Author.Needs.{needs}
-use Rattle.telemetry_lines.specs.Parts.{firstSensorText}
+use Rattle.telemetry_lines.specs.Pieces.{firstSensorText}
 use Rattle.telemetry_lines.proofs.PutLaws.{put-then, put-length}
 use Rattle.telemetry_lines.proofs.TextLaws.{length-integer}
 use Rattle.telemetry_lines.proofs.output.put_first_sensors.Statement.{statement}

@@ -2,7 +2,7 @@
 -- Assumes nothing.
 use native.Mathlib.Omega.{arith}
 use borrow.Author.Needs.{needs}
-use Rattle.telemetry_lines.specs.Parts.{lastSensorText}
+use Rattle.telemetry_lines.specs.Pieces.{lastSensorText}
 use Rattle.telemetry_lines.proofs.PutLaws.{put-then, put-length}
 use Rattle.telemetry_lines.proofs.TextLaws.{length-decimal}
 use Rattle.telemetry_lines.proofs.output.put_last_sensors.Statement.{statement}

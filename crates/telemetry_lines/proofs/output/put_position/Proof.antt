@@ -1,7 +1,7 @@
 -- `telemetry_lines::output::put_position` meets its contract: one part is put after the other.
 -- Assumes nothing.
 use borrow.Author.Needs.{needs}
-use Rattle.telemetry_lines.specs.Parts.{positionText}
+use Rattle.telemetry_lines.specs.Pieces.{positionText}
 use Rattle.telemetry_lines.proofs.PutLaws.{put-then}
 use Rattle.telemetry_lines.proofs.output.put_position.Statement.{statement}
 use Rattle.telemetry_lines.proofs.output.put_position.Tie as tie

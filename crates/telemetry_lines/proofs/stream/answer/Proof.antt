@@ -4,8 +4,7 @@ use Prim.Native.Nat.{_-_, _≤_}
 use native.Mathlib.Omega.{arith}
 use mathlib.Core.Logic.{⊎-elim}
 use lib.ListN.{length}
-use Rattle.telemetry_lines.specs.Stream.{mostKept}
-use Rattle.telemetry_lines.specs.Buffer.{heldBy}
+use Rattle.telemetry_lines.specs.Stream.{mostKept, heldBy}
 use Rattle.telemetry_lines.proofs.PutLaws.{put-length}
 use Rattle.telemetry_lines.proofs.LineLaws.{held-within}
 use Rattle.telemetry_lines.proofs.StreamLaws.{Answering, answering-starts, answering-room, answering-newline, answering-other, answering-ends}

@@ -5,8 +5,7 @@ use Prim.Native.Nat.{_≤_, _<_}
 use native.Mathlib.Omega.{arith}
 use lib.ListN.{length}
 use borrow.Author.Needs.{needs}
-use Rattle.telemetry_lines.specs.Stream.{mostKept}
-use Rattle.telemetry_lines.specs.Buffer.{heldBy}
+use Rattle.telemetry_lines.specs.Stream.{mostKept, heldBy}
 use Rattle.telemetry_lines.proofs.PutLaws.{put-none}
 use Rattle.telemetry_lines.proofs.LineLaws.{held-none, held-count}
 use Rattle.telemetry_lines.proofs.StreamLaws.{last-none, last-begun}
