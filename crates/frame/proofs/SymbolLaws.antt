@@ -25,6 +25,11 @@ use Rattle.frame.specs.RoundTrip.{RightForm}
 
 -- ---- Symbols
 
+-- "it has 162 entries"
+length-sync : length syncVector ≡ 162
+unfolding syncVector
+length-sync = refl
+
 -- What is read of a copy of the synchronization vector is the place's sync bit.
 pub sync-read : {table : List ℕ} (place : ℕ) → table ≡ syncVector → getD table place 0 ≡ syncAt place
 unfolding syncAt

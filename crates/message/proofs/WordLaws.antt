@@ -182,6 +182,11 @@ module _ (n m1 power : ℕ) (locator : m1 < 32_400) (legal : power ≤ 60) where
   unfolding powerPart wordFrom lowerNumber
   powerPart-word = omega arith
 
+  -- "M .., at most 4,147,196"
+  lowerNumber-most : lowerNumber m1 power ≤ 4_147_196
+  unfolding lowerNumber
+  lowerNumber-most = omega arith
+
   pub word-below : n < 262_177_560 → wordFrom n (lowerNumber m1 power) < 2 ^ 50
   unfolding wordFrom lowerNumber
   word-below h = omega arith
