@@ -98,6 +98,11 @@ pub fn edge_words() -> Vec<u64> {
     words
 }
 
+/// Lengths of a lent callsign or locator, the right ones among them.
+pub fn field_lengths() -> impl Iterator<Item = usize> {
+    (0..=12).chain([255])
+}
+
 /// All lengths but a frame's own up to about twice that, and some longer ones: 418 and 674
 /// have its lowest 8 bits, the last two its lowest 16.
 pub fn wrong_lengths() -> impl Iterator<Item = usize> {

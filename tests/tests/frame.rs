@@ -6,9 +6,9 @@ use wsprcard_tests::answers::{
 use wsprcard_tests::card;
 use wsprcard_tests::counts::Counts;
 use wsprcard_tests::inputs::{
-    bad_character, bad_power, bad_symbol, bad_word, edge_words, legal_bytes, random_characters,
-    random_frame, random_legal_word, random_message, random_places, random_word, resized, spoil,
-    wrong_lengths,
+    bad_character, bad_power, bad_symbol, bad_word, edge_words, field_lengths, legal_bytes,
+    random_characters, random_frame, random_legal_word, random_message, random_places, random_word,
+    resized, spoil, wrong_lengths,
 };
 use wsprcard_tests::lent::Lent;
 use wsprcard_tests::reference::frame::{self as reference, CLOCKED, FRAME_LEN};
@@ -691,8 +691,8 @@ fn words_near_every_boundary_are_read_to_the_message_or_refused() {
 #[test]
 fn refusals_come_in_their_order_in_reading_messages() {
     let mut check = Check::new(24);
-    for callsign_len in lengths() {
-        for locator_len in lengths() {
+    for callsign_len in field_lengths() {
+        for locator_len in field_lengths() {
             for number in [0, 1, 4, 5, 6, 7, 8, 9] {
                 for _ in 0..10 {
                     let symbols = symbols_refused_by(&mut check.rng, number);
@@ -709,11 +709,6 @@ fn refusals_come_in_their_order_in_reading_messages() {
     at_least.extend([0, 4, 5, 6].map(|number| ("read_message", number, 10)));
     at_least.extend([7, 8, 9].map(|number| ("read_message", number, 196 * 10)));
     check.finish(&at_least);
-}
-
-/// Lengths of a lent callsign or locator.
-fn lengths() -> impl Iterator<Item = usize> {
-    (0..=12).chain([255])
 }
 
 // Writing messages

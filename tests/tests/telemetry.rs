@@ -6,8 +6,8 @@ use wsprcard_tests::answers::{message_answer, reading_answer, refused_message, r
 use wsprcard_tests::card;
 use wsprcard_tests::counts::Counts;
 use wsprcard_tests::inputs::{
-    bad_character, bad_power, legal_bytes, random_characters, random_message, random_telemetry,
-    spoil, spoil_telemetry,
+    bad_character, bad_power, field_lengths, legal_bytes, random_characters, random_message,
+    random_telemetry, spoil, spoil_telemetry,
 };
 use wsprcard_tests::lent::Lent;
 use wsprcard_tests::reference::frame::FRAME_LEN;
@@ -511,8 +511,8 @@ fn arbitrary_inputs_are_written_or_refused() {
 #[test]
 fn wrong_lengths_are_refused_before_all_else_in_writing() {
     let mut check = Check::new(16);
-    for callsign_len in lengths() {
-        for locator_len in lengths() {
+    for callsign_len in field_lengths() {
+        for locator_len in field_lengths() {
             for turn in 0..40 {
                 let mut telemetry = random_telemetry(&mut check.rng);
                 if turn % 2 == 1 {
@@ -526,10 +526,6 @@ fn wrong_lengths_are_refused_before_all_else_in_writing() {
         }
     }
     check.finish(&[("write", 0, 20), ("write", 1, 195 * 40), ("write", 14, 20)]);
-}
-
-fn lengths() -> impl Iterator<Item = usize> {
-    (0..=12).chain([255])
 }
 
 /// Filled with a pattern and then with its complement, no byte can be right by chance.
@@ -824,8 +820,8 @@ fn faulty_report(rng: &mut Rng, faults: u32) -> (Vec<u8>, Vec<u8>, u32) {
 #[test]
 fn wrong_lengths_are_refused_before_all_else_in_reading() {
     let mut check = Check::new(28);
-    for callsign_len in lengths() {
-        for locator_len in lengths() {
+    for callsign_len in field_lengths() {
+        for locator_len in field_lengths() {
             for faults in 0..128 {
                 let (mut callsign, mut locator, power) = faulty_report(&mut check.rng, faults << 2);
                 callsign.resize(callsign_len, b'A');
