@@ -25,8 +25,8 @@ use Rattle.wsprcard.specs.declared.WsprWord.{WsprWord}
 pub record Found {A S : Type 0} (result : A → S) (found : S → A) (a : A) : Type 0 where
   pub again : found (result a) ≡ a
 
--- A layer's answer and its result, where the answer defined is the one in its result: the result is that of the answer defined, and the
--- layer's answer is the one in it.
+-- From what an export learns of its calls, the result of the layer's answer and that this is the answer defined: it returns the result of
+-- the answer defined, and the layer's answer is the one in it.
 pub told : {A S : Type 0} {result : A → S} {found : S → A} {defined answer : A} {r : S} → Found result found defined → r ≡ result answer
     → answer ≡ defined → (r ≡ result defined) × (answer ≡ found r)
 told {result = result} {found = found} f e is =

@@ -78,7 +78,7 @@ fn written_result(answer: Written) -> WsprWritten
             place: 0,
         },
         Written::Refused(refusal) => WsprWritten {
-            refusal: refusal.number,
+            refusal: refusal.number, // never 0
             place: refusal.place,
         },
     }
@@ -97,7 +97,7 @@ fn word_result(answer: Packed) -> WsprWord
         Packed::Refused(refusal) => WsprWord {
             refusal: refusal.number,
             place: refusal.place,
-            word: 0,
+            word: 0, // "zero everywhere else"
         },
     }
 }
