@@ -1,5 +1,2 @@
--- `MessageResults`, `FrameResults`, `RepairResults`, `TelemetryResults`: what the layers promise, in the terms of the C interface.
-mod MessageResults
-mod FrameResults
-mod RepairResults
-mod TelemetryResults
+-- `ResultLaws`: the layers' answers in the structs of the C interface.
+mod ResultLaws

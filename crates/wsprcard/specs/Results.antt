@@ -1,4 +1,4 @@
--- The structs of the C interface for the answers of the layers, and what the calls promise of each other in their terms.
+-- The structs of the C interface for the answers of the layers, and the layers' answers in them.
 use Prim.Native.Nat.{ℕ}
 use mathlib.Core.Path.{_≡_}
 use mathlib.Core.Logic.{_↔_}
@@ -6,20 +6,18 @@ use mathlib.Core.Bool.{cond}
 use mathlib.Core.List.{List}
 use lib.Dec.{eqb}
 use lib.IntN.{ℤ}
-use lib.ListN.{length}
 use Rattle.refusal.specs.Refusals.{refusal, noWord}
-use Rattle.message.specs.Answer.{packed, WordNumbers, PowerNumbers}
-use Rattle.message.specs.RoundTrip.{ReadsAs, NeverMade}
+use Rattle.refusal.specs.declared.Refusal.{Refusal}
+use Rattle.message.specs.Answer.{WordNumbers, PowerNumbers}
 use Rattle.message.specs.declared.Packed.{Packed}
+use Rattle.message.specs.declared.Given.{Given}
 use Rattle.frame.specs.Answer.{writtenRefusal}
-use Rattle.frame.specs.RoundTrip.{ReadsAsWord, WordWritesAs, NeverFromWord, RightForm, NoWord, ReadsAsMessage, MessageWritesAs, NeverFromMessage}
+use Rattle.frame.specs.RoundTrip.{RightForm, NoWord}
 use Rattle.frame.specs.declared.Written.{Written}
 use Rattle.repair.specs.Answer.{RepairNumbers}
 use Rattle.repair.specs.declared.Repaired.{Repaired}
-use Rattle.telemetry.specs.Answer.{decoded, ReadingNumbers}
-use Rattle.telemetry.specs.RoundTrip.{quantised, inTenths, WritesAs, NeverWritten}
+use Rattle.telemetry.specs.Answer.{ReadingNumbers}
 use Rattle.telemetry.specs.declared.Measured.{Measured}
-use Rattle.telemetry.specs.declared.Reading.{Reading}
 use Rattle.telemetry.specs.declared.Decoded.{Decoded}
 use Rattle.wsprcard.specs.declared.WsprWritten.{WsprWritten}
 use Rattle.wsprcard.specs.declared.WsprWord.{WsprWord}
@@ -67,16 +65,49 @@ readingResult numbers =
       gps = r .gps;
     }
 
--- ---- The result of a repair as the layer's answer
+-- ---- The layers' answers in the structs, of which the exports promise what the layers promise
 
--- A word where the refusal number is 0.
-abbrev pub answerIn : WsprRepaired → Repaired
-answerIn r =
-    cond (eqb (r .refusal) 0)
+-- A refusal number of 0 is success: the answer is the one without a refusal. Any other number is that of a refusal, with its place.
+abbrev pub answerIn : {A : Type 0} → ℕ → ℕ → A → (Refusal → A) → A
+answerIn number place done refused = cond (eqb number 0) done (refused (refusal number place))
+
+abbrev pub writtenIn : WsprWritten → Written
+writtenIn r = answerIn (r .refusal) (r .place) Written.Done Written.Refused
+
+abbrev pub packedIn : WsprWord → Packed
+packedIn r = answerIn (r .refusal) (r .place) (Packed.Word (r .word)) Packed.Refused
+
+abbrev pub givenIn : WsprMessage → Given
+givenIn r = answerIn (r .refusal) (r .place) (Given.Power (r .power)) Given.Refused
+
+abbrev pub repairedIn : WsprRepaired → Repaired
+repairedIn r =
+    answerIn (r .refusal) (r .place)
     (Repaired.Word (record { word = r .word; disagreements = r .disagreements; live = r .live; «sync_wrong» = r .«sync_wrong» }))
-    (Repaired.Refused (refusal (r .refusal) (r .place)))
+    Repaired.Refused
 
--- ---- The arguments and results of telemetry as the layer's records
+abbrev pub decodedIn : U4bReading → Decoded
+decodedIn r =
+    answerIn (r .refusal) (r .place)
+    (Decoded.Telemetry (record {
+      first = r .first;
+      third = r .third;
+      grid5 = r .grid5;
+      grid6 = r .grid6;
+      altitude = r .altitude;
+      temperature = r .temperature;
+      voltage = r .voltage;
+      speed = r .speed;
+      gps = r .gps;
+    }))
+    Decoded.Refused
+
+-- Refusal 9 is given exactly where the form is right and no 50-bit word has the frame. This is said of the number alone, as a host
+-- tests it; the layer's `NoWordRefused` says it of number and place.
+abbrev pub NoWordExactly : WsprWord → List ℕ → Type 0
+NoWordExactly r frame = (r .refusal ≡ noWord) ↔ (RightForm frame × NoWord frame)
+
+-- ---- The arguments of telemetry as the layer's record
 
 -- What is measured, from the arguments in their order.
 abbrev pub measuredFrom : ℕ → ℕ → ℕ → ℕ → ℕ → ℤ → ℕ → ℕ → ℕ → Measured
@@ -91,72 +122,3 @@ measuredFrom first third grid5 grid6 altitude temperature voltage speed gps = re
   speed = speed;
   gps = gps;
 }
-
--- The readings in a result.
-abbrev pub readingIn : U4bReading → Reading
-readingIn r = record {
-  first = r .first;
-  third = r .third;
-  grid5 = r .grid5;
-  grid6 = r .grid6;
-  altitude = r .altitude;
-  temperature = r .temperature;
-  voltage = r .voltage;
-  speed = r .speed;
-  gps = r .gps;
-}
-
--- ---- What the calls promise of each other: a refusal number of 0 is success
-
--- What was packed reads back.
-abbrev pub PackedReadsBack : WsprWord → List ℕ → List ℕ → ℕ → Type 0
-PackedReadsBack r callsign locator power = r .refusal ≡ 0 → ReadsAs (r .word) callsign locator power
-
--- What was read packs back.
-abbrev pub MessagePacksBack : WsprMessage → ℕ → List ℕ → List ℕ → Type 0
-MessagePacksBack r word callsign locator = r .refusal ≡ 0 → packed callsign locator (r .power) ≡ Packed.Word word
-
--- With a callsign of six bytes and a locator of four lent, the word is refused exactly where no message has it.
-abbrev pub UnpackRefusedExactly : WsprMessage → ℕ → List ℕ → List ℕ → Type 0
-UnpackRefusedExactly r word callsign locator = length callsign ≡ 6 → length locator ≡ 4 → (r .refusal ≡ 0 → ⊥) ↔ NeverMade word
-
--- A frame that was written from a word reads back, and is no other word's.
-abbrev pub FrameReadsAsWord : WsprWritten → ℕ → List ℕ → Type 0
-FrameReadsAsWord r word frame = r .refusal ≡ 0 → ReadsAsWord frame word
-
--- A frame that was written from a message reads back.
-abbrev pub FrameReadsAsMessage : WsprWritten → List ℕ → List ℕ → ℕ → List ℕ → Type 0
-FrameReadsAsMessage r callsign locator power frame = r .refusal ≡ 0 → ReadsAsMessage frame callsign locator power
-
--- The word that was read writes the frame.
-abbrev pub WordWritesFrame : WsprWord → List ℕ → Type 0
-WordWritesFrame r frame = r .refusal ≡ 0 → WordWritesAs (r .word) frame
-
--- The frame is refused exactly where writing from a word never makes it.
-abbrev pub FrameRefusedExactly : WsprWord → List ℕ → Type 0
-FrameRefusedExactly r frame = (r .refusal ≡ 0 → ⊥) ↔ NeverFromWord frame
-
--- Refusal 9 is given exactly where the form is right and no 50-bit word has the frame.
-abbrev pub NoWordExactly : WsprWord → List ℕ → Type 0
-NoWordExactly r frame = (r .refusal ≡ noWord) ↔ (RightForm frame × NoWord frame)
-
--- The message that was read writes the frame.
-abbrev pub MessageWritesFrame : WsprMessage → List ℕ → List ℕ → List ℕ → Type 0
-MessageWritesFrame r frame callsign locator = r .refusal ≡ 0 → MessageWritesAs callsign locator (r .power) frame
-
--- With a callsign of six bytes and a locator of four lent, the frame is refused exactly where writing from a message never makes it.
-abbrev pub MessageFrameRefusedExactly : WsprMessage → List ℕ → List ℕ → List ℕ → Type 0
-MessageFrameRefusedExactly r frame callsign locator =
-    length callsign ≡ 6 → length locator ≡ 4 → (r .refusal ≡ 0 → ⊥) ↔ NeverFromMessage frame
-
--- What was measured and written reads back, quantised.
-abbrev pub TelemetryReadsBack : WsprMessage → Measured → List ℕ → List ℕ → Type 0
-TelemetryReadsBack r m callsign locator = r .refusal ≡ 0 → decoded callsign locator (r .power) ≡ Decoded.Telemetry (quantised m)
-
--- What was read writes the message again, with degrees and knots in tenths.
-abbrev pub TelemetryWritesBack : U4bReading → List ℕ → List ℕ → ℕ → Type 0
-TelemetryWritesBack r callsign locator power = r .refusal ≡ 0 → WritesAs (inTenths (readingIn r)) callsign locator power
-
--- The message is refused exactly where nothing that is measured writes it.
-abbrev pub TelemetryRefusedExactly : U4bReading → List ℕ → List ℕ → ℕ → Type 0
-TelemetryRefusedExactly r callsign locator power = (r .refusal ≡ 0 → ⊥) ↔ NeverWritten callsign locator power

@@ -1,16 +1,18 @@
-// The card's functions for a host in C, over include/wsprcard.h: each is a thin layer over that of
-// its crate, with the answer's result numbers in a struct.
+// The card's functions for a host in C, declared in include/wsprcard.h: each is a thin layer over
+// that of its crate, with the answer's result numbers in a struct.
 ghost use mathlib.Core.Path.{_≡_};
-ghost use Rattle.message.specs.Answer.{packed, unpacked, callsignAfter, locatorAfter, packedNumbers, givenNumbers, wordGiven, wordRefused};
+ghost use Rattle.message.specs.Answer.{packed, unpacked, callsignAfter, locatorAfter, packedNumbers, givenNumbers};
+ghost use Rattle.message.specs.RoundTrip.{ReadsBack, PacksBack, RefusesExactly};
 ghost use Rattle.frame.specs.Answer.{wordWritten, messageWritten, frameAfterWord, frameAfterMessage, wordRead, messageRead, callsignRead, locatorRead};
+ghost use Rattle.frame.specs.RoundTrip.{WordReadsBack, WordWritesBack, WordRefusedExactly, MessageReadsBack, MessageWritesBack, MessageRefusedExactly};
 ghost use Rattle.repair.specs.Answer.{repaired, repairNumbers};
 ghost use Rattle.repair.specs.Demand.{AsChecked, AsDemanded, TwoFlipsRepaired};
 ghost use Rattle.telemetry.specs.Answer.{written, decoded, decodedNumbers, callsignWritten, locatorWritten};
-ghost use Rattle.wsprcard.specs.Results.{writtenResult, wordResult, messageResult, repairedResult, answerIn, readingResult, measuredFrom, PackedReadsBack, MessagePacksBack, UnpackRefusedExactly, FrameReadsAsWord, FrameReadsAsMessage, WordWritesFrame, FrameRefusedExactly, NoWordExactly, MessageWritesFrame, MessageFrameRefusedExactly, TelemetryReadsBack, TelemetryWritesBack, TelemetryRefusedExactly};
+ghost use Rattle.telemetry.specs.RoundTrip as Telemetry;
+ghost use Rattle.wsprcard.specs.Results.{writtenResult, wordResult, messageResult, repairedResult, readingResult, writtenIn, packedIn, givenIn, repairedIn, decodedIn, measuredFrom, NoWordExactly};
 use frame::Written;
 use message::Given;
 use message::Packed;
-use refusal::Refusal;
 use repair::Repaired;
 use telemetry::Decoded;
 use telemetry::Measured;
@@ -76,31 +78,27 @@ fn written_result(answer: Written) -> WsprWritten
             place: 0,
         },
         Written::Refused(refusal) => WsprWritten {
-            refusal: refusal.number,
+            refusal: refusal.number, // never 0
             place: refusal.place,
         },
     }
 }
 
 // The result with a word.
-fn given_word(word: u64) -> WsprWord
-    ensures { λ r. ⌜ r ≡ wordResult (wordGiven word) ⌝ }
+fn word_result(answer: Packed) -> WsprWord
+    ensures { λ r. ⌜ r ≡ wordResult (packedNumbers answer) ⌝ }
 {
-    WsprWord {
-        refusal: 0,
-        place: 0,
-        word,
-    }
-}
-
-// The result of a refusal to give a word.
-fn refused_word(refusal: Refusal) -> WsprWord
-    ensures { λ r. ⌜ r ≡ wordResult (wordRefused refusal) ⌝ }
-{
-    WsprWord {
-        refusal: refusal.number,
-        place: refusal.place,
-        word: 0,
+    match answer {
+        Packed::Word(word) => WsprWord {
+            refusal: 0,
+            place: 0,
+            word,
+        },
+        Packed::Refused(refusal) => WsprWord {
+            refusal: refusal.number,
+            place: refusal.place,
+            word: 0, // "zero everywhere else"
+        },
     }
 }
 
@@ -184,12 +182,9 @@ fn reading_result(answer: Decoded) -> U4bReading
 #[no_mangle]
 pub extern "C" fn wspr_pack(callsign: &[u8], locator: &[u8], power: u32) -> WsprWord
     ensures answer { λ r. ⌜ r ≡ wordResult (packedNumbers (packed (now (callsign .entry)) (now (locator .entry)) power)) ⌝ }
-    ensures reads_back { λ r. ⌜ PackedReadsBack r (now (callsign .entry)) (now (locator .entry)) power ⌝ }
+    ensures reads_back { λ r. ⌜ ReadsBack (packedIn r) (now (callsign .entry)) (now (locator .entry)) power ⌝ }
 {
-    match message::pack(callsign, locator, power) {
-        Packed::Word(word) => given_word(word),
-        Packed::Refused(refusal) => refused_word(refusal),
-    }
+    word_result(message::pack(callsign, locator, power))
 }
 
 // The message of a word: its callsign and locator are written, its power is returned.
@@ -198,8 +193,8 @@ pub extern "C" fn wspr_unpack(word: u64, callsign: &mut [u8], locator: &mut [u8]
     ensures answer { λ r. ⌜ r ≡ messageResult (givenNumbers (unpacked (now (callsign .entry)) (now (locator .entry)) word)) ⌝ }
     ensures callsign_after { λ _. ⌜ now (callsign .exit) ≡ callsignAfter (now (callsign .entry)) (now (locator .entry)) word ⌝ }
     ensures locator_after { λ _. ⌜ now (locator .exit) ≡ locatorAfter (now (callsign .entry)) (now (locator .entry)) word ⌝ }
-    ensures packs_back { λ r. ⌜ MessagePacksBack r word (now (callsign .exit)) (now (locator .exit)) ⌝ }
-    ensures refuses_exactly { λ r. ⌜ UnpackRefusedExactly r word (now (callsign .entry)) (now (locator .entry)) ⌝ }
+    ensures packs_back { λ r. ⌜ PacksBack (givenIn r) word (now (callsign .exit)) (now (locator .exit)) ⌝ }
+    ensures refuses_exactly { λ r. ⌜ RefusesExactly (givenIn r) word (now (callsign .entry)) (now (locator .entry)) ⌝ }
 {
     message_result(message::unpack(word, callsign, locator))
 }
@@ -209,7 +204,7 @@ pub extern "C" fn wspr_unpack(word: u64, callsign: &mut [u8], locator: &mut [u8]
 pub extern "C" fn wspr_write_word(word: u64, frame: &mut [u8]) -> WsprWritten
     ensures answer { λ r. ⌜ r ≡ writtenResult (wordWritten (now (frame .entry)) word) ⌝ }
     ensures frame_after { λ _. ⌜ now (frame .exit) ≡ frameAfterWord (now (frame .entry)) word ⌝ }
-    ensures reads_back { λ r. ⌜ FrameReadsAsWord r word (now (frame .exit)) ⌝ }
+    ensures reads_back { λ r. ⌜ WordReadsBack (writtenIn r) word (now (frame .exit)) ⌝ }
 {
     written_result(frame::write_word(word, frame))
 }
@@ -224,7 +219,7 @@ pub extern "C" fn wspr_write_message(
 ) -> WsprWritten
     ensures answer { λ r. ⌜ r ≡ writtenResult (messageWritten (now (callsign .entry)) (now (locator .entry)) power (now (frame .entry))) ⌝ }
     ensures frame_after { λ _. ⌜ now (frame .exit) ≡ frameAfterMessage (now (callsign .entry)) (now (locator .entry)) power (now (frame .entry)) ⌝ }
-    ensures reads_back { λ r. ⌜ FrameReadsAsMessage r (now (callsign .entry)) (now (locator .entry)) power (now (frame .exit)) ⌝ }
+    ensures reads_back { λ r. ⌜ MessageReadsBack (writtenIn r) (now (callsign .entry)) (now (locator .entry)) power (now (frame .exit)) ⌝ }
 {
     written_result(frame::write_message(callsign, locator, power, frame))
 }
@@ -233,14 +228,11 @@ pub extern "C" fn wspr_write_message(
 #[no_mangle]
 pub extern "C" fn wspr_read_word(frame: &[u8]) -> WsprWord
     ensures answer { λ r. ⌜ r ≡ wordResult (packedNumbers (wordRead (now (frame .entry)))) ⌝ }
-    ensures writes_back { λ r. ⌜ WordWritesFrame r (now (frame .entry)) ⌝ }
-    ensures refuses_exactly { λ r. ⌜ FrameRefusedExactly r (now (frame .entry)) ⌝ }
+    ensures writes_back { λ r. ⌜ WordWritesBack (packedIn r) (now (frame .entry)) ⌝ }
+    ensures refuses_exactly { λ r. ⌜ WordRefusedExactly (packedIn r) (now (frame .entry)) ⌝ }
     ensures no_word { λ r. ⌜ NoWordExactly r (now (frame .entry)) ⌝ }
 {
-    match frame::read_word(frame) {
-        Packed::Word(word) => given_word(word),
-        Packed::Refused(refusal) => refused_word(refusal),
-    }
+    word_result(frame::read_word(frame))
 }
 
 // The message of a frame: its callsign and locator are written, its power is returned.
@@ -253,8 +245,8 @@ pub extern "C" fn wspr_read_message(
     ensures answer { λ r. ⌜ r ≡ messageResult (givenNumbers (messageRead (now (frame .entry)) (now (callsign .entry)) (now (locator .entry)))) ⌝ }
     ensures callsign_after { λ _. ⌜ now (callsign .exit) ≡ callsignRead (now (frame .entry)) (now (callsign .entry)) (now (locator .entry)) ⌝ }
     ensures locator_after { λ _. ⌜ now (locator .exit) ≡ locatorRead (now (frame .entry)) (now (callsign .entry)) (now (locator .entry)) ⌝ }
-    ensures writes_back { λ r. ⌜ MessageWritesFrame r (now (frame .entry)) (now (callsign .exit)) (now (locator .exit)) ⌝ }
-    ensures refuses_exactly { λ r. ⌜ MessageFrameRefusedExactly r (now (frame .entry)) (now (callsign .entry)) (now (locator .entry)) ⌝ }
+    ensures writes_back { λ r. ⌜ MessageWritesBack (givenIn r) (now (frame .entry)) (now (callsign .exit)) (now (locator .exit)) ⌝ }
+    ensures refuses_exactly { λ r. ⌜ MessageRefusedExactly (givenIn r) (now (frame .entry)) (now (callsign .entry)) (now (locator .entry)) ⌝ }
 {
     message_result(frame::read_message(frame, callsign, locator))
 }
@@ -263,9 +255,9 @@ pub extern "C" fn wspr_read_message(
 #[no_mangle]
 pub extern "C" fn wspr_repair(frame: &[u8], limit: u32, budget: u32) -> WsprRepaired
     ensures answer { λ r. ⌜ r ≡ repairedResult (repairNumbers (repaired (now (frame .entry)) limit budget)) ⌝ }
-    ensures checked { λ r. ⌜ AsChecked (now (frame .entry)) limit budget (answerIn r) ⌝ }
-    ensures demanded { λ r. ⌜ AsDemanded (now (frame .entry)) limit budget (answerIn r) ⌝ }
-    ensures two_flips { λ r. ⌜ TwoFlipsRepaired (now (frame .entry)) limit budget (answerIn r) ⌝ }
+    ensures checked { λ r. ⌜ AsChecked (now (frame .entry)) limit budget (repairedIn r) ⌝ }
+    ensures demanded { λ r. ⌜ AsDemanded (now (frame .entry)) limit budget (repairedIn r) ⌝ }
+    ensures two_flips { λ r. ⌜ TwoFlipsRepaired (now (frame .entry)) limit budget (repairedIn r) ⌝ }
 {
     repaired_result(repair::repair(frame, limit, budget))
 }
@@ -288,7 +280,7 @@ pub extern "C" fn u4b_write(
     ensures answer { λ r. ⌜ r ≡ messageResult (givenNumbers (written (now (callsign .entry)) (now (locator .entry)) (measuredFrom first third grid5 grid6 altitude temperature voltage speed gps))) ⌝ }
     ensures callsign_after { λ _. ⌜ now (callsign .exit) ≡ callsignWritten (now (callsign .entry)) (now (locator .entry)) (measuredFrom first third grid5 grid6 altitude temperature voltage speed gps) ⌝ }
     ensures locator_after { λ _. ⌜ now (locator .exit) ≡ locatorWritten (now (callsign .entry)) (now (locator .entry)) (measuredFrom first third grid5 grid6 altitude temperature voltage speed gps) ⌝ }
-    ensures reads_back { λ r. ⌜ TelemetryReadsBack r (measuredFrom first third grid5 grid6 altitude temperature voltage speed gps) (now (callsign .exit)) (now (locator .exit)) ⌝ }
+    ensures reads_back { λ r. ⌜ Telemetry.ReadsBack (givenIn r) (measuredFrom first third grid5 grid6 altitude temperature voltage speed gps) (now (callsign .exit)) (now (locator .exit)) ⌝ }
 {
     let measured = Measured {
         first,
@@ -308,8 +300,8 @@ pub extern "C" fn u4b_write(
 #[no_mangle]
 pub extern "C" fn u4b_read(callsign: &[u8], locator: &[u8], power: u32) -> U4bReading
     ensures answer { λ r. ⌜ r ≡ readingResult (decodedNumbers (decoded (now (callsign .entry)) (now (locator .entry)) power)) ⌝ }
-    ensures writes_back { λ r. ⌜ TelemetryWritesBack r (now (callsign .entry)) (now (locator .entry)) power ⌝ }
-    ensures refuses_exactly { λ r. ⌜ TelemetryRefusedExactly r (now (callsign .entry)) (now (locator .entry)) power ⌝ }
+    ensures writes_back { λ r. ⌜ Telemetry.WritesBack (decodedIn r) (now (callsign .entry)) (now (locator .entry)) power ⌝ }
+    ensures refuses_exactly { λ r. ⌜ Telemetry.RefusesExactly (decodedIn r) (now (callsign .entry)) (now (locator .entry)) power ⌝ }
 {
     reading_result(telemetry::read(callsign, locator, power))
 }

@@ -1,7 +1,8 @@
 -- `wsprcard::u4b_write` meets its contract: the layer's answer, in its struct. A signed argument is read back from its bits as it was.
 -- Assumes nothing.
 use mir.Facts.{toZ-ofZ}
-use Rattle.wsprcard.proofs.TelemetryResults.{write-results}
+use Rattle.telemetry.proofs.AnswerLaws.{written-answered}
+use Rattle.wsprcard.proofs.ResultLaws.{given-found, told}
 use borrow.Author.Needs.{needs}
 use Rattle.wsprcard.proofs.u4b_write.Statement.{statement}
 use Rattle.wsprcard.proofs.u4b_write.Tie as tie
@@ -22,8 +23,10 @@ returns : tie.Need-returns
 returns c =
     let w = c .before .before .before .before .before in
     let s = w .before .before .before .before .before in
-    write-results (s .args .callsign .now) (s .args .locator .now) _ _ _ _ _ (c .message-result .ensures) (rw (toZ-ofZ (s .fits .temperature)) at (w .write .ensures))
+    let promised = rw (toZ-ofZ (s .fits .temperature)) at (w .write .ensures) in
+    let answered = written-answered (s .args .callsign .now) (s .args .locator .now) _ in
+    let (result, same) = told (given-found _ answered) (c .message-result .ensures) (promised .0) in
+    (result, rw same at (promised .1))
 
 pub u4b-write-spec : {M : Type 1} → statement M
-u4b-write-spec =
-    tie.close (tie.spec write-requires message-result-requires same-length same-length-2 returns)
+u4b-write-spec = tie.close (tie.spec write-requires message-result-requires same-length same-length-2 returns)

@@ -1,6 +1,7 @@
 -- `wsprcard::wspr_read_message` meets its contract: the layer's answer, in its struct.
 -- Assumes nothing.
-use Rattle.wsprcard.proofs.FrameResults.{read-message-results}
+use Rattle.frame.proofs.AnswerLaws.{message-read-answered}
+use Rattle.wsprcard.proofs.ResultLaws.{given-found, told}
 use borrow.Author.Needs.{needs}
 use Rattle.wsprcard.proofs.wspr_read_message.Statement.{statement}
 use Rattle.wsprcard.proofs.wspr_read_message.Tie as tie
@@ -21,9 +22,9 @@ returns : tie.Need-returns
 returns c =
     let m = c .before .before .before .before .before in
     let a = m .before .before .before .before .before .before .args in
-    read-message-results (a .frame .now) (a .callsign .now) (a .locator .now) _ _ _ _ (c .message-result .ensures) (m .read-message .ensures)
+    let answered = message-read-answered (a .frame .now) (a .callsign .now) (a .locator .now) in
+    let (result, same) = told (given-found _ answered) (c .message-result .ensures) (m .read-message .ensures .0) in
+    (result, rw same at (m .read-message .ensures .1))
 
 pub wspr-read-message-spec : {M : Type 1} → statement M
-wspr-read-message-spec =
-    tie.close
-    (tie.spec read-message-requires message-result-requires same-length same-length-2 returns)
+wspr-read-message-spec = tie.close (tie.spec read-message-requires message-result-requires same-length same-length-2 returns)

@@ -1,6 +1,7 @@
 -- `wsprcard::wspr_repair` meets its contract: the layer's answer, in its struct.
 -- Assumes nothing.
-use Rattle.wsprcard.proofs.RepairResults.{repair-results}
+use Rattle.repair.proofs.CheckLaws.{refusal-number}
+use Rattle.wsprcard.proofs.ResultLaws.{repaired-found, told}
 use borrow.Author.Needs.{needs}
 use Rattle.wsprcard.proofs.wspr_repair.Statement.{statement}
 use Rattle.wsprcard.proofs.wspr_repair.Tie as tie
@@ -15,7 +16,9 @@ returns : tie.Need-returns
 returns c =
     let m = c .before in
     let a = m .before .before .args in
-    repair-results (a .frame .now) (a .limit) (a .budget) _ _ (c .repaired-result .ensures) (m .repair .ensures)
+    let numbered = refusal-number (a .frame .now) (a .limit) (a .budget) in
+    let (result, same) = told (repaired-found _ numbered) (c .repaired-result .ensures) (m .repair .ensures .0) in
+    (result, rw same at (m .repair .ensures .1))
 
 pub wspr-repair-spec : {M : Type 1} → statement M
 wspr-repair-spec = tie.close (tie.spec repair-requires repaired-result-requires returns)

@@ -1,6 +1,7 @@
 -- `wsprcard::wspr_unpack` meets its contract: the layer's answer, in its struct.
 -- Assumes nothing.
-use Rattle.wsprcard.proofs.MessageResults.{unpack-results}
+use Rattle.message.proofs.AnswerLaws.{unpacked-answered}
+use Rattle.wsprcard.proofs.ResultLaws.{given-found, told}
 use borrow.Author.Needs.{needs}
 use Rattle.wsprcard.proofs.wspr_unpack.Statement.{statement}
 use Rattle.wsprcard.proofs.wspr_unpack.Tie as tie
@@ -21,8 +22,9 @@ returns : tie.Need-returns
 returns c =
     let m = c .before .before .before .before .before in
     let a = m .before .before .before .before .before .args in
-    unpack-results (a .callsign .now) (a .locator .now) (a .word) _ _ _ _ (c .message-result .ensures) (m .unpack .ensures)
+    let answered = unpacked-answered (a .callsign .now) (a .locator .now) (a .word) in
+    let (result, same) = told (given-found _ answered) (c .message-result .ensures) (m .unpack .ensures .0) in
+    (result, rw same at (m .unpack .ensures .1))
 
 pub wspr-unpack-spec : {M : Type 1} → statement M
-wspr-unpack-spec =
-    tie.close (tie.spec unpack-requires message-result-requires same-length same-length-2 returns)
+wspr-unpack-spec = tie.close (tie.spec unpack-requires message-result-requires same-length same-length-2 returns)

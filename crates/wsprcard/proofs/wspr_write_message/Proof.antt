@@ -1,6 +1,7 @@
 -- `wsprcard::wspr_write_message` meets its contract: the layer's answer, in its struct.
 -- Assumes nothing.
-use Rattle.wsprcard.proofs.FrameResults.{write-message-results}
+use Rattle.frame.proofs.AnswerLaws.{message-answered}
+use Rattle.wsprcard.proofs.ResultLaws.{written-found, told}
 use borrow.Author.Needs.{needs}
 use Rattle.wsprcard.proofs.wspr_write_message.Statement.{statement}
 use Rattle.wsprcard.proofs.wspr_write_message.Tie as tie
@@ -18,8 +19,9 @@ returns : tie.Need-returns
 returns c =
     let w = c .before .before .before in
     let a = w .before .before .before .before .before .args in
-    write-message-results (a .callsign .now) (a .locator .now) (a .power) (a .frame .now) _ _ _ (c .written-result .ensures) (w .write-message .ensures)
+    let answered = message-answered (a .callsign .now) (a .locator .now) (a .power) (a .frame .now) in
+    let (result, same) = told (written-found _ answered) (c .written-result .ensures) (w .write-message .ensures .0) in
+    (result, rw same at (w .write-message .ensures .1))
 
 pub wspr-write-message-spec : {M : Type 1} → statement M
-wspr-write-message-spec =
-    tie.close (tie.spec write-message-requires written-result-requires same-length returns)
+wspr-write-message-spec = tie.close (tie.spec write-message-requires written-result-requires same-length returns)

@@ -1,6 +1,7 @@
 -- `wsprcard::wspr_write_word` meets its contract: the layer's answer, in its struct.
 -- Assumes nothing.
-use Rattle.wsprcard.proofs.FrameResults.{write-word-results}
+use Rattle.frame.proofs.AnswerLaws.{written-answered}
+use Rattle.wsprcard.proofs.ResultLaws.{written-found, told}
 use borrow.Author.Needs.{needs}
 use Rattle.wsprcard.proofs.wspr_write_word.Statement.{statement}
 use Rattle.wsprcard.proofs.wspr_write_word.Tie as tie
@@ -18,8 +19,9 @@ returns : tie.Need-returns
 returns c =
     let w = c .before .before .before in
     let a = w .before .before .before .args in
-    write-word-results (a .frame .now) (a .word) _ _ _ (c .written-result .ensures) (w .write-word .ensures)
+    let answered = written-answered (a .frame .now) (a .word) in
+    let (result, same) = told (written-found _ answered) (c .written-result .ensures) (w .write-word .ensures .0) in
+    (result, rw same at (w .write-word .ensures .1))
 
 pub wspr-write-word-spec : {M : Type 1} → statement M
-wspr-write-word-spec =
-    tie.close (tie.spec write-word-requires written-result-requires same-length returns)
+wspr-write-word-spec = tie.close (tie.spec write-word-requires written-result-requires same-length returns)
