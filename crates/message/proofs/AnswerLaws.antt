@@ -2,7 +2,6 @@
 use mathlib.Core.Path.{_≡_, refl, sym, _∙_}
 use Prim.Native.Nat.{ℕ, _-_, _^_, _≤_, _<_}
 use native.Mathlib.Omega.{arith}
-use mathlib.Core.Logic.{_↔_}
 use mathlib.Core.Bool.{true, false, cond, not, _||_, or-true}
 use mathlib.Core.List.{List, _++_}
 use lib.Dec.{eqb, leb, ltb}
@@ -15,7 +14,6 @@ use Rattle.message.specs.Character.{firstBad, legalAt}
 use Rattle.power.specs.Powers.{legalPower}
 use Rattle.message.specs.Word.{wordOf, callsignPart, locatorPart, powerPart}
 use Rattle.message.specs.Answer.{rightLengths, checked, wordIf, packed, wordAnswer, unpacked, packedNumbers, givenNumbers}
-use Rattle.message.specs.RoundTrip.{IsRefused}
 use Rattle.message.specs.declared.Checked.{Checked}
 use Rattle.message.specs.declared.Packed.{Packed}
 use Rattle.message.specs.declared.Given.{Given}
@@ -224,14 +222,3 @@ unpacked-answered callsign locator word =
     (cond-both P (leb (2 ^ 50) word || leb 262_177_560 (callsignPart word)) (λ z. absurd (omega arith))
     (cond-both P (leb 32_400 (locatorPart word)) (λ z. absurd (omega arith))
     (cond-both P (ltb (powerPart word) 64 || not (legalPower (powerPart word - 64))) (λ z. absurd (omega arith)) (λ z. refl))))
-
-pub nonzero-refused : (answer : Given) → (givenNumbers answer .number ≡ 0 → ⊥) → IsRefused answer
-unfolding givenNumbers
-nonzero-refused (Given.Power p) nonzero = nonzero refl
-nonzero-refused (Given.Refused f) nonzero = tt
-
-pub refused-number : (callsign locator : List ℕ) (word : ℕ)
-    → IsRefused (unpacked callsign locator word) ↔ (givenNumbers (unpacked callsign locator word) .number ≡ 0 → ⊥)
-unfolding givenNumbers
-refused-number callsign locator word =
-    (λ refused zero. rw (unpacked-answered callsign locator word zero) at refused, λ nonzero. nonzero-refused (unpacked callsign locator word) nonzero)

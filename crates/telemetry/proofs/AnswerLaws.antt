@@ -7,7 +7,6 @@ use mathlib.Core.List.{List}
 use lib.Dec.{eqb, leb, ltb}
 use lib.ListN.{length}
 use borrow.Author.Tests.{le-leb, lt-leb, leb-false, lt-ltb, le-ltb, ltb-false, eq-eqb, ne-eqb, eqb-false}
-use mathlib.Core.Logic.{_↔_}
 use Rattle.basics.proofs.Choice.{cond-passed, cond-both}
 use Rattle.refusal.specs.declared.Refusal.{Refusal}
 use Rattle.refusal.specs.Refusals.{refusal, wrongLength, extendedTelemetry, badPositionNumber, badSensorNumber, outOfRange}
@@ -22,7 +21,6 @@ use Rattle.u4b.proofs.AnswerLaws.{refused-nonzero}
 use Rattle.telemetry.specs.Ranges.{firstOutOfRange}
 use Rattle.telemetry.specs.Numbers.{sensorNumber, readingOf}
 use Rattle.telemetry.specs.Answer.{measuredAnswer, written, numbersAnswer, carriedAnswer, decoded, decodedNumbers}
-use Rattle.telemetry.specs.RoundTrip.{IsRefused}
 use Rattle.telemetry.specs.declared.Measured.{Measured}
 use Rattle.telemetry.specs.declared.Reading.{Reading}
 use Rattle.telemetry.specs.declared.Decoded.{Decoded}
@@ -151,13 +149,3 @@ pub decoded-answered : (callsign locator : List ℕ) (power : ℕ) → decodedNu
     → decoded callsign locator power ≡ Decoded.Telemetry (decodedNumbers (decoded callsign locator power) .reading)
 unfolding Answered decoded
 decoded-answered callsign locator power = carried-answered (carried callsign locator power) (refused-nonzero callsign locator power)
-
-nonzero-refused : (answer : Decoded) → (decodedNumbers answer .number ≡ 0 → ⊥) → IsRefused answer
-unfolding decodedNumbers
-nonzero-refused (Decoded.Telemetry r) nonzero = nonzero refl
-nonzero-refused (Decoded.Refused f) nonzero = tt
-
-pub refused-number : (callsign locator : List ℕ) (power : ℕ)
-    → IsRefused (decoded callsign locator power) ↔ (decodedNumbers (decoded callsign locator power) .number ≡ 0 → ⊥)
-refused-number callsign locator power =
-    (λ refused zero. rw (decoded-answered callsign locator power zero) at refused, λ nonzero. nonzero-refused (decoded callsign locator power) nonzero)
