@@ -62,7 +62,7 @@ pub fn wrong_sync(frame: &[u8]) -> u32
     let sync = sync_vector();
     let mut wrong: u32 = 0;
     let mut place = 0;
-    while place < 162 {
+    while place < frame.len() {
         let sync_bit = frame[place] % 2;
         if sync_bit != sync[place] {
             wrong += 1;

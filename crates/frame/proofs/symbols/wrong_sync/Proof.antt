@@ -5,6 +5,7 @@ use mathlib.Core.Logic.{⊎-elim}
 use Prim.Native.Nat.{ℕ, _-_, _+_, _≤_}
 use native.Mathlib.Omega.{arith}
 use mathlib.Core.Bool.{not}
+use lib.ListN.{length}
 use borrow.Author.Needs.{needs}
 use borrow.Author.Tests.{eq-eqb, ne-eqb}
 use Rattle.basics.specs.Below.{countBelow}
@@ -15,10 +16,10 @@ use Rattle.frame.proofs.symbols.wrong_sync.Statement.{statement}
 use Rattle.frame.proofs.symbols.wrong_sync.Tie as tie
 
 abbrev Inv-loop : tie.InvT-loop
-Inv-loop frame sync wrong₀ place₀ wrong place = (place ≤ 162) × ((wrong ≤ place) × (wrong ≡ countBelow place (unsyncedAt frame)))
+Inv-loop frame sync wrong₀ place₀ wrong place = (place ≤ length frame) × ((wrong ≤ place) × (wrong ≡ countBelow place (unsyncedAt frame)))
 
 abbrev μ-loop : tie.MeasureT-loop
-μ-loop frame sync wrong₀ place₀ wrong place = 162 - place
+μ-loop frame sync wrong₀ place₀ wrong place = length frame - place
 
 sync-vector-requires : tie.Need-sync-vector-requires Inv-loop μ-loop
 sync-vector-requires c κs = search needs
