@@ -10,34 +10,43 @@ INTERFACE = messages frames repair telemetry
 # The files of the benchmark: the calls by hand in C, and what measures them beside the library's.
 BENCH = bench calls inputs spread symbols message frame search telemetry
 
-.PHONY: all run install test hostile fuzz fuzz-smoke fuzz-reference fuzz-reference-covered bench library program clean
+.PHONY: all run install test outside hostile fuzz fuzz-random fuzz-reference fuzz-reference-covered bench library program clean
 
-# The host program, build/wsprcard, over the library.
-all: build/wsprcard
+# The host program, build/wsprcard, over the library; and the line program.
+all: build/wsprcard program
 
-# What the desk would see of the frames of host/sample, read and repaired.
-run: build/wsprcard
-	./host/desk build/wsprcard
+# All is built; then what the desk would see of the frames of host/sample, read and repaired.
+run: all
+	./host/show_sample build/wsprcard
 
-PREFIX = /usr/local
-install: build/wsprcard
+# What `make` has built: so that root needs no toolchain.
+PREFIX ?= /usr/local
+install:
+	test -x build/wsprcard || { echo 'run make first' >&2; exit 1; }
 	install -D build/wsprcard $(DESTDIR)$(PREFIX)/bin/wsprcard
 	install -D -m 644 host/wsprcard.1 $(DESTDIR)$(PREFIX)/share/man/man1/wsprcard.1
 	install -D -m 644 include/wsprcard.h $(DESTDIR)$(PREFIX)/include/wsprcard.h
 	install -D -m 644 $(CARD) $(DESTDIR)$(PREFIX)/lib/libwsprcard.a
 
-# The outside tests, then the gate, whose last line is 'N passed, 0 failed'. The benchmark is built, so that it keeps up
-# with the header, and not run.
-test: $(INTERFACE:%=build/%) build/bench build/time_program program hostile fuzz-smoke
-	./host/desk build/wsprcard | diff host/sample.stdout -
+# The gate first, as what it has proved isn't proved again for the outside tests; its last line, 'N passed, 0 failed', is
+# said once more at the end.
+test:
+	mkdir -p build
+	rt ci 2>&1 | tee build/gate.log
+	tail -n 1 build/gate.log | grep -q ' passed, 0 failed$$'
+	$(MAKE) outside
+	tail -n 1 build/gate.log
+
+# The outside tests. The benchmark is built, so that it keeps up with the header, and not run.
+outside: $(INTERFACE:%=build/%) build/bench build/time_program all hostile fuzz-random
+	./host/show_sample build/wsprcard | diff host/sample.stdout -
 	for name in $(INTERFACE); do \
 	    ./build/$$name > build/$$name.stdout && diff tests/c/$$name.stdout build/$$name.stdout || exit 1; \
 	done
 	cd tests && cargo test --release --offline
-	rt ci
 
-# The library and the same work by hand in C, side by side in one run; then whole runs of WSJT-X's programs, where it is
-# installed, and of the host's.
+# The library and the same work by hand in C, side by side in one run; then, where WSJT-X is installed, whole runs of its
+# programs and of the host's.
 bench: build/bench build/time_program build/wsprcard
 	./build/bench
 	./bench/wsjtx
@@ -72,7 +81,7 @@ build/time_program: bench/time_program.c bench/spread.c bench/spread.h
 
 SANITIZE = -g -fsanitize=address,undefined -fno-sanitize-recover=all
 HOSTILE = tests/c/hostile.c tests/c/hostile_input.c tests/c/exports.c
-HOSTILE_HEADERS = tests/c/hostile_input.h tests/c/exports.h tests/c/generator.h include/wsprcard.h
+HOSTILE_HEADERS = tests/c/hostile_input.h tests/c/exports.h tests/c/generator.h tests/c/legal.h include/wsprcard.h
 
 # Under valgrind and with the sanitizers; it needs valgrind.
 hostile: build/hostile build/hostile_sanitized build/noise build/wsprcard build/wsprcard_sanitized
@@ -98,8 +107,8 @@ build/wsprcard_sanitized: $(wildcard host/*.c host/*.h) include/wsprcard.h $(CAR
 # finds is left in build/fuzz_found_*; `build/fuzz FILE` runs it again. FUZZ_CARD may name another library to be fuzzed.
 FUZZ_SECONDS = 60
 FUZZ_CARD = $(CARD)
-FUZZ = tests/fuzz/card.c tests/fuzz/fenced.c tests/fuzz/input.c tests/c/exports.c
-FUZZ_HEADERS = $(wildcard tests/fuzz/*.h) tests/c/exports.h tests/c/generator.h include/wsprcard.h
+FUZZ = tests/fuzz/card.c tests/fuzz/guarded.c tests/fuzz/input.c tests/c/exports.c
+FUZZ_HEADERS = $(wildcard tests/fuzz/*.h) tests/c/exports.h tests/c/generator.h tests/c/legal.h include/wsprcard.h
 FUZZ_INCLUDES = -Itests/fuzz -Itests/c
 REFERENCE = tests/target/fuzz/release/libreference.a
 REFERENCE_COVERED = tests/target/fuzz_covered/release/libreference.a
@@ -119,15 +128,15 @@ fuzz: build/fuzz build/noise
 	    -artifact_prefix=build/fuzz_found_ build/corpus
 
 # The same harness on a fixed number of random inputs, so that it keeps up with the header.
-fuzz-smoke: build/fuzz_smoke
-	./build/fuzz_smoke 1000000
+fuzz-random: build/fuzz_random
+	./build/fuzz_random 1000000
 
 build/fuzz: $(FUZZ) $(FUZZ_HEADERS) $(REFERENCE_COVERED) $(FUZZ_CARD)
 	mkdir -p build
 	clang -std=c11 -Wall -Wextra -O2 -g -fsanitize=fuzzer,undefined -fno-sanitize-recover=all -Iinclude \
 	    $(FUZZ_INCLUDES) -o $@ $(FUZZ) $(FUZZ_CARD) $(REFERENCE_COVERED)
 
-build/fuzz_smoke: tests/fuzz/driver.c $(FUZZ) $(FUZZ_HEADERS) $(REFERENCE) $(FUZZ_CARD)
+build/fuzz_random: tests/fuzz/driver.c $(FUZZ) $(FUZZ_HEADERS) $(REFERENCE) $(FUZZ_CARD)
 	mkdir -p build
 	$(COMPILE) $(FUZZ_INCLUDES) -o $@ tests/fuzz/driver.c $(FUZZ) $(FUZZ_CARD) $(REFERENCE)
 

@@ -1,4 +1,4 @@
-/* Draws the inputs of the benchmark. What is to be legal is made by the card itself. */
+/* Draws the inputs of the benchmark. Words and frames are made by the card itself. */
 #include "inputs.h"
 
 /* splitmix64 */

@@ -41,8 +41,8 @@ static uint32_t count_sync_wrong(const uint8_t *frame)
 }
 
 /* Makes a prefix one bit longer, either way: it becomes its child with the fewer disagreements, and `other` the other
- * one. Both masks take the newest bit, so that the coded bits of a 1 are the complements of those of a 0, one pair of
- * parities serves both children, and they cost 2 disagreements together. */
+ * one. Both masks take the newest bit, so that the coded bits of a 1 are the complements of those of a 0, and the two
+ * children cost 2 disagreements together. */
 static inline void extend(prefix *nearer, prefix *other, uint32_t received)
 {
     uint32_t differing = ((uint32_t)nearer->coming & 3) ^ received;

@@ -28,7 +28,7 @@ static const struct {
     {8, 0, ANY_FORM, "the symbol's sync bit is wrong"},
     {9, 0, ANY_FORM, "no word has this frame"},
     {10, 0, ANY_FORM, "the first character isn't 0, 1 or Q"},
-    {10, 3, ANY_FORM, "a space isn't telemetry's"},
+    {10, 3, ANY_FORM, "a space stands where telemetry has a letter"},
     {11, 0, ANY_FORM, "extended telemetry"},
     {12, 0, ANY_FORM, "the number of sub-square and altitude is 615168 or more"},
     {13, 0, ANY_FORM, "the number of temperature, voltage, speed and GPS is 604800 or more"},
@@ -50,7 +50,7 @@ static const struct {
 
 static const char *reason_of(refusal r, form of)
 {
-    const char *reason = "no reason is known";
+    const char *reason = "no reason is known"; /* for the refusals of a newer library */
 
     for (size_t i = 0; i < sizeof reasons / sizeof *reasons; i++)
         if (reasons[i].number == r.number && reasons[i].place <= r.place &&
@@ -96,21 +96,12 @@ static void plain_report(const u4b_reading *r)
            r->altitude, r->temperature, r->voltage, r->speed, r->gps);
 }
 
-/* What stands before a string, and the string. Bytes that aren't ASCII are taken for the characters of their numbers,
- * so that any bytes give valid JSON. */
+/* What stands before a string, and the string. It needs no escapes: what is printed are characters that the card
+ * accepts, digits, and reasons, none of which has a quote or a backslash. */
 static void json_string(const char *before, const void *string, size_t length)
 {
-    const uint8_t *bytes = string;
-
     printf("%s\"", before);
-    for (size_t i = 0; i < length; i++) {
-        if (bytes[i] == '"' || bytes[i] == '\\')
-            printf("\\%c", bytes[i]);
-        else if (bytes[i] < ' ' || bytes[i] > '~')
-            printf("\\u%04x", (unsigned)bytes[i]);
-        else
-            putchar(bytes[i]);
-    }
+    fwrite(string, 1, length, stdout);
     putchar('"');
 }
 

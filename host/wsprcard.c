@@ -87,13 +87,13 @@ static bool take_report(const line *l, span field[REPORT_FIELDS])
     return field[0].length > 0 && text.length == 0;
 }
 
-/* What is shown of the message is what the card says of its word, not what was typed. */
+/* What is shown of the message is what the card says of its word, not what was typed. Only packing refuses: what was
+ * packed reads back, and every word has a frame. */
 static refusal answer_encode(run *r, const line *l)
 {
     uint8_t frame[SYMBOLS];
     typed_message typed;
     message m;
-    wspr_written written;
     wspr_word w;
 
     take_message(l, &typed);
@@ -101,11 +101,7 @@ static refusal answer_encode(run *r, const line *l)
     if (w.refusal)
         return (refusal){w.refusal, w.place};
     m.card = wspr_unpack(w.word, m.callsign, CALLSIGN, m.locator, LOCATOR);
-    if (m.card.refusal)
-        return (refusal){m.card.refusal, m.card.place};
-    written = wspr_write_word(w.word, frame, SYMBOLS);
-    if (written.refusal)
-        return (refusal){written.refusal, written.place};
+    wspr_write_word(w.word, frame, SYMBOLS);
     r->out->frame(&m, w.word, frame);
     return none;
 }

@@ -1,5 +1,6 @@
-/* Calls the nine exports with hostile input and holds every answer to what the header promises. Each lent buffer is a
- * block of its own of exactly its length, so that valgrind and the sanitizers see a byte too far. */
+/* Calls the nine exports with hostile input and holds every answer to what can be told without a second implementation.
+ * Each lent buffer is a block of its own of exactly its length, so that valgrind sees a byte too far; the sanitizers see
+ * the C code only. */
 #include <inttypes.h>
 #include <stdio.h>
 #include <stdlib.h>
@@ -396,10 +397,10 @@ static void hold_live(const uint8_t *frame, uint32_t limit, wspr_repaired r)
 }
 
 /* What is promised of two flipped data bits at most; and that a known word is never passed over for a farther one. */
-static void hold_healed(const struct frame_input *f, uint32_t limit, uint32_t budget, wspr_repaired r)
+static void hold_sent_word(const struct frame_input *f, uint32_t limit, uint32_t budget, wspr_repaired r)
 {
     if (f->flips <= 2 && limit == 2 && budget >= 16000 && budget <= 65536)
-        hold(r.refusal == 0 && r.word == f->word && r.disagreements == f->flips, "two flipped data bits are healed");
+        hold(r.refusal == 0 && r.word == f->word && r.disagreements == f->flips, "two flipped data bits are repaired");
     if (f->flips <= limit)
         hold(r.refusal != 17, "a word within the limit isn't refused 17");
     if (r.refusal == 0)
@@ -435,7 +436,7 @@ static void try_repair(struct generator *g)
     hold_unchanged(&frame, &frame);
     hold_repair_refusal(&frame, limit, budget, r);
     if (f.of_word && !f.spoiled && frame.len == FRAME_LEN)
-        hold_healed(&f, limit, budget, r);
+        hold_sent_word(&f, limit, budget, r);
     if (r.refusal == 0) {
         hold_repaired(frame.bytes, limit, budget, r);
         hold_live(frame.bytes, limit, r);

@@ -4,17 +4,6 @@
 #include "hostile_input.h"
 #include "wsprcard.h"
 
-#define COUNT(table) (sizeof(table) / sizeof *(table))
-
-static const uint32_t powers[] = {0, 3, 7, 10, 13, 17, 20, 23, 27, 30, 33, 37, 40, 43, 47, 50, 53, 57, 60};
-
-/* The characters legal at each place: 0 to 5 are the callsign's, 6 to 9 the locator's. */
-static const char *const characters[] = {
-    "0123456789ABCDEFGHIJKLMNOPQRSTUVWXYZ ", "0123456789ABCDEFGHIJKLMNOPQRSTUVWXYZ", "0123456789",
-    "ABCDEFGHIJKLMNOPQRSTUVWXYZ ", "ABCDEFGHIJKLMNOPQRSTUVWXYZ ", "ABCDEFGHIJKLMNOPQRSTUVWXYZ ",
-    "ABCDEFGHIJKLMNOPQR", "ABCDEFGHIJKLMNOPQR", "0123456789", "0123456789",
-};
-
 /* Both sides of every range's ends, of the types' ends, and right numbers with a bit too many. */
 static const uint32_t edges[] = {
     0, 1, 2, 11, 12, 13, 14, 60, 61, 64, 80, 81, 82, 130, 131, 256, 293, 838, 839, 840, 2999, 3000, 4999, 5000, 16000,

@@ -6,11 +6,9 @@
 #include <stdint.h>
 
 #include "generator.h"
+#include "legal.h"
 
-enum { CALLSIGN_LEN = 6, LOCATOR_LEN = 4, FRAME_LEN = 162, LONGEST = 4096 };
-
-/* 2^50: no word is so large. */
-#define WORDS (UINT64_C(1) << 50)
+enum { LONGEST = 4096 };
 
 /* What a lent buffer is to hold. */
 struct content {

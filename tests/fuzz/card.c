@@ -6,7 +6,7 @@
 
 #include "card.h"
 #include "exports.h"
-#include "fenced.h"
+#include "guarded.h"
 #include "input.h"
 #include "reference.h"
 #include "wsprcard.h"
@@ -24,7 +24,7 @@ static void equal(const char *what, uint64_t card, uint64_t reference)
 
 static void equal_buffers(void)
 {
-    if (fences_agree())
+    if (guards_agree())
         return;
     fprintf(stderr, "fuzz: %s: a byte in a buffer or beside it isn't what the reference says\n", export_name(current));
     abort();
@@ -51,26 +51,26 @@ static void equal_messages(wspr_message card, wspr_message reference)
     equal("power", card.power, reference.power);
 }
 
-static struct fenced lend(struct input *in, enum fence fence, const struct content *c)
+static struct guarded lend(struct input *in, enum guard guard, const struct content *c)
 {
     uint8_t how = take(in);
 
-    return lend_fenced(fence, c->bytes, c->len, how & 1, how & 2);
+    return lend_guarded(guard, c->bytes, c->len, how & 1, how & 2);
 }
 
 /* A buffer to be written. */
-static struct fenced lend_to_write(struct input *in, enum fence fence, size_t exact)
+static struct guarded lend_to_write(struct input *in, enum guard guard, size_t exact)
 {
     struct content c;
 
     take_buffer(in, &c, exact);
-    return lend(in, fence, &c);
+    return lend(in, guard, &c);
 }
 
 static void try_pack(struct input *in)
 {
     struct message m;
-    struct fenced c, l;
+    struct guarded c, l;
 
     take_message(in, &m);
     c = lend(in, CALLSIGN, &m.callsign);
@@ -82,8 +82,8 @@ static void try_pack(struct input *in)
 static void try_unpack(struct input *in)
 {
     uint64_t word = take_word(in);
-    struct fenced c = lend_to_write(in, CALLSIGN, CALLSIGN_LEN);
-    struct fenced l = lend_to_write(in, LOCATOR, LOCATOR_LEN);
+    struct guarded c = lend_to_write(in, CALLSIGN, CALLSIGN_LEN);
+    struct guarded l = lend_to_write(in, LOCATOR, LOCATOR_LEN);
 
     equal_messages(wspr_unpack(word, c.card, c.len, l.card, l.len),
                    reference_unpack(word, c.reference, c.len, l.reference, l.len));
@@ -92,7 +92,7 @@ static void try_unpack(struct input *in)
 static void try_write_word(struct input *in)
 {
     uint64_t word = take_word(in);
-    struct fenced f = lend_to_write(in, FRAME, FRAME_LEN);
+    struct guarded f = lend_to_write(in, FRAME, FRAME_LEN);
     wspr_written card = wspr_write_word(word, f.card, f.len);
     wspr_written reference = reference_write_word(word, f.reference, f.len);
 
@@ -102,7 +102,7 @@ static void try_write_word(struct input *in)
 static void try_write_message(struct input *in)
 {
     struct message m;
-    struct fenced c, l, f;
+    struct guarded c, l, f;
     wspr_written card, reference;
 
     take_message(in, &m);
@@ -117,7 +117,7 @@ static void try_write_message(struct input *in)
 static void try_read_word(struct input *in)
 {
     struct content symbols;
-    struct fenced f;
+    struct guarded f;
 
     take_frame(in, &symbols);
     f = lend(in, FRAME, &symbols);
@@ -127,7 +127,7 @@ static void try_read_word(struct input *in)
 static void try_read_message(struct input *in)
 {
     struct content symbols;
-    struct fenced f, c, l;
+    struct guarded f, c, l;
 
     take_frame(in, &symbols);
     f = lend(in, FRAME, &symbols);
@@ -140,7 +140,7 @@ static void try_read_message(struct input *in)
 static void try_repair(struct input *in)
 {
     struct content symbols;
-    struct fenced f;
+    struct guarded f;
     uint32_t limit = take_limit(in), budget;
     wspr_repaired card, reference;
 
@@ -159,7 +159,7 @@ static void try_repair(struct input *in)
 static void try_u4b_write(struct input *in)
 {
     struct report r;
-    struct fenced c, l;
+    struct guarded c, l;
 
     take_report(in, &r);
     c = lend_to_write(in, CALLSIGN, CALLSIGN_LEN);
@@ -173,7 +173,7 @@ static void try_u4b_write(struct input *in)
 static void try_u4b_read(struct input *in)
 {
     struct message m;
-    struct fenced c, l;
+    struct guarded c, l;
     u4b_reading card, reference;
 
     take_telemetry_message(in, &m);

@@ -1,4 +1,4 @@
-/* Runs the fuzzer's harness without the fuzzer, on random inputs from a seeded generator: fuzz_smoke INPUTS [SEED]. */
+/* Runs the fuzzer's harness without the fuzzer, on random inputs from a seeded generator: fuzz_random INPUTS [SEED]. */
 #include <stdio.h>
 #include <stdlib.h>
 

@@ -5,18 +5,6 @@
 
 #include "reference.h"
 
-#define COUNT(table) (sizeof(table) / sizeof *(table))
-#define WORDS (UINT64_C(1) << 50)
-
-static const uint32_t powers[] = {0, 3, 7, 10, 13, 17, 20, 23, 27, 30, 33, 37, 40, 43, 47, 50, 53, 57, 60};
-
-/* The characters legal at each place: 0 to 5 are the callsign's, 6 to 9 the locator's. */
-static const char *const characters[] = {
-    "0123456789ABCDEFGHIJKLMNOPQRSTUVWXYZ ", "0123456789ABCDEFGHIJKLMNOPQRSTUVWXYZ", "0123456789",
-    "ABCDEFGHIJKLMNOPQRSTUVWXYZ ", "ABCDEFGHIJKLMNOPQRSTUVWXYZ ", "ABCDEFGHIJKLMNOPQRSTUVWXYZ ",
-    "ABCDEFGHIJKLMNOPQR", "ABCDEFGHIJKLMNOPQR", "0123456789", "0123456789",
-};
-
 struct input input_of(const uint8_t *bytes, size_t count)
 {
     struct input in = {bytes, count, {count}};

@@ -6,8 +6,9 @@
 #include <stdint.h>
 
 #include "generator.h"
+#include "legal.h"
 
-enum { CALLSIGN_LEN = 6, LOCATOR_LEN = 4, FRAME_LEN = 162, LONGEST = 512 };
+enum { LONGEST = 512 };
 
 /* What is left of the fuzzer's bytes. Past their end come random ones, seeded by the bytes: the fuzzer shortens its
  * inputs as far as it can, and with zeros there the short ones would all be alike. */

@@ -5,7 +5,8 @@ use std::path::Path;
 
 use wsprcard_tests::card;
 use wsprcard_tests::facts::{CLEAN, LEAST_DISTANCE};
-use wsprcard_tests::inputs::noise;
+use wsprcard_tests::inputs::{flipped, noise, random_places, random_word};
+use wsprcard_tests::reference::frame::frame_of;
 use wsprcard_tests::reference::message::{CALLSIGNS, LOCATORS, POWERS};
 use wsprcard_tests::reference::repair::{Code, LARGEST_BUDGET};
 use wsprcard_tests::reference::telemetry::{AS, BS};
@@ -65,8 +66,19 @@ fn the_table_of_limits_holds_the_counts_of_flips() {
 /// the flips together.
 #[test]
 fn up_to_limit_4_every_pattern_within_the_limit_is_within_the_largest_budget() {
-    let most = |limit: usize| CLEAN[2 * limit];
-    assert!((0..=4).all(|limit| most(limit) <= u64::from(LARGEST_BUDGET)));
+    let most = |limit: u32| CLEAN[2 * limit as usize];
+    let mut rng = Rng::new(0x0004_f11b);
+    for limit in 0..=4 {
+        assert!(most(limit) <= u64::from(LARGEST_BUDGET));
+        for _ in 0..2_000 {
+            let word = random_word(&mut rng);
+            let flips = rng.between(0, u64::from(limit)) as usize;
+            let frame = flipped(frame_of(word), &random_places(&mut rng, flips));
+            let answer = card::repair(&frame, limit, LARGEST_BUDGET);
+            assert_eq!((answer.refusal, answer.word), (0, word), "{frame:?} at limit {limit}");
+            assert!(u64::from(answer.live) <= most(limit), "{frame:?}: {answer:?}");
+        }
+    }
     assert!(most(5) > u64::from(LARGEST_BUDGET));
     assert!(CLEAN[9] <= u64::from(LARGEST_BUDGET) && CLEAN[10] > u64::from(LARGEST_BUDGET));
 }

@@ -6,7 +6,7 @@ use std::io::{self, BufRead, BufReader, Read, Write};
 use std::os::unix::net::UnixStream;
 use std::os::unix::process::ExitStatusExt;
 use std::path::Path;
-use std::process::{ChildStdout, Stdio};
+use std::process::{self, ChildStdout, Stdio};
 use std::sync::mpsc::{self, Receiver};
 use std::thread;
 use std::time::Duration;
@@ -252,9 +252,34 @@ fn the_json_reader_is_strict() {
 
 // The manual page
 
+/// Its commands, each with the lines that it prints.
+fn examples_of_the_manual_page() -> Vec<(String, String)> {
+    let page = fs::read_to_string(in_repository("host/wsprcard.1")).unwrap().replace("\\-", "-");
+    let (_, examples) = page.split_once(".SH EXAMPLES\n.nf\n$ ").unwrap();
+    let (examples, _) = examples.split_once(".fi\n").unwrap();
+    let example = |text: &str| {
+        let (command, printed) = text.split_once('\n').unwrap();
+        (command.to_string(), printed.trim_end_matches('\n').to_string() + "\n")
+    };
+    examples.split("\n$ ").map(example).collect()
+}
+
+#[test]
+fn the_commands_of_the_manual_page_print_what_it_shows() {
+    let examples = examples_of_the_manual_page();
+    assert!(examples.len() >= 4, "{examples:?}");
+    for (command, shown) in examples {
+        let output = process::Command::new("sh")
+            .args(["-c", &command])
+            .env("PATH", format!("{}:/usr/bin:/bin", in_repository("build").display()))
+            .output()
+            .unwrap();
+        assert_eq!(String::from_utf8(output.stdout).unwrap(), shown, "{command}");
+    }
+}
+
 #[test]
 fn the_examples_of_the_manual_page_hold() {
-    assert_eq!(pipe(&["encode"], &["read"], b"K1ABC FN20 37\n"), b" K1ABC FN20 37\n");
     for (arguments, line, answer) in [
         (COMMANDS[4], "Q2 SK 12340 -15 4100 30 1", "QQ2XFT GP99 60"),
         (COMMANDS[3], "QQ2XFT GP99 60", "Q2 SK 12340 -15 4100 30 1"),
@@ -380,9 +405,9 @@ const REFUSED_TELEMETRY: &[(&str, &str)] = &[
     ("qQ2XFT GP99 60", "2 0: the callsign's character isn't 0 to 9, A to Z or a space"),
     ("QQ2XFT GP99 61", "3 0: the power isn't one of the 19"),
     ("K1ABC FN20 37", "10 0: the first character isn't 0, 1 or Q"),
-    ("QQ2 FT GP99 60", "10 3: a space isn't telemetry's"),
-    ("QQ2X T GP99 60", "10 4: a space isn't telemetry's"),
-    ("QQ2XF GP99 60", "10 5: a space isn't telemetry's"),
+    ("QQ2 FT GP99 60", "10 3: a space stands where telemetry has a letter"),
+    ("QQ2X T GP99 60", "10 4: a space stands where telemetry has a letter"),
+    ("QQ2XF GP99 60", "10 5: a space stands where telemetry has a letter"),
     ("000AAA AA00 00", "11 0: extended telemetry"),
     ("0Z0AAI RM31 33", "12 0: the number of sub-square and altitude is 615168 or more"),
     ("0Z0AAH RM31 40", "13 0: the number of temperature, voltage, speed and GPS is 604800 or more"),
@@ -1403,7 +1428,7 @@ fn what_was_read_before_a_failed_read_is_answered() {
 
 // The sample
 
-/// The files of host/sample in the order in which host/desk takes them.
+/// The files of host/sample in the order in which host/show_sample takes them.
 const SAMPLE: [&str; 6] =
     ["clean", "two-flips", "sync-damage", "noise", "another-kind", "extended"];
 
@@ -1444,8 +1469,8 @@ fn sample(name: &str) -> [u8; FRAME_LEN] {
     }
 }
 
-/// What host/desk is to print.
-fn desk() -> Vec<u8> {
+/// What host/show_sample is to print.
+fn shown_sample() -> Vec<u8> {
     let mut lines = Vec::new();
     for name in SAMPLE {
         let frame = joined([frame_line(&sample(name))]);
@@ -1466,13 +1491,13 @@ fn the_sample_is_as_it_should_be() {
         assert_eq!(found.escape_ascii().to_string(), expected.escape_ascii().to_string(), "{name}");
     }
     let printed = fs::read(in_repository("host/sample.stdout")).unwrap();
-    assert_output(b"", &printed, &desk(), 0);
+    assert_output(b"", &printed, &shown_sample(), 0);
 }
 
 /// What the reference says of each file is what the file is there for.
 #[test]
 fn the_sample_shows_what_it_is_for() {
-    let told = String::from_utf8(desk()).unwrap();
+    let told = String::from_utf8(shown_sample()).unwrap();
     let lines: Vec<&str> = told.lines().collect();
     let expected = [
         ("clean", "  K1ABC FN20 37", "telemetry refused 10 0: "),
@@ -1492,19 +1517,19 @@ fn the_sample_shows_what_it_is_for() {
 }
 
 #[test]
-fn the_desk_prints_what_the_reference_says() {
+fn the_sample_is_shown_as_the_reference_says() {
     let program = in_repository("build/wsprcard");
-    let script = Program::new("host/desk", "git checkout", &[program.to_str().unwrap()]);
+    let script = Program::new("host/show_sample", "git checkout", &[program.to_str().unwrap()]);
     let ended = script.run(b"");
-    assert_output(b"", &ended.stdout, &desk(), 0);
+    assert_output(b"", &ended.stdout, &shown_sample(), 0);
     assert_eq!(ended.status.code(), Some(0));
 }
 
 /// A program that can't be run is told by the script's status.
 #[test]
-fn the_desk_fails_where_the_program_does() {
+fn showing_the_sample_fails_where_the_program_does() {
     for program in ["/bin/false/none", "/dev/null"] {
-        let ended = Program::new("host/desk", "git checkout", &[program]).run(b"");
+        let ended = Program::new("host/show_sample", "git checkout", &[program]).run(b"");
         assert_ne!(ended.status.code(), Some(0), "{program}");
     }
 }
@@ -1517,5 +1542,5 @@ fn the_sample_is_written() {
         let path = in_repository(&format!("host/sample/{name}.txt"));
         fs::write(path, joined([frame_line(&sample(name))])).unwrap();
     }
-    fs::write(in_repository("host/sample.stdout"), desk()).unwrap();
+    fs::write(in_repository("host/sample.stdout"), shown_sample()).unwrap();
 }

@@ -369,7 +369,7 @@ pub fn reason(command: Command, refusal: &Refusal) -> &'static str {
         (8, _) => "the symbol's sync bit is wrong",
         (9, _) => "no word has this frame",
         (10, 0) => "the first character isn't 0, 1 or Q",
-        (10, _) => "a space isn't telemetry's",
+        (10, _) => "a space stands where telemetry has a letter",
         (11, _) => "extended telemetry",
         (12, _) => "the number of sub-square and altitude is 615168 or more",
         (13, _) => "the number of temperature, voltage, speed and GPS is 604800 or more",
