@@ -2,8 +2,8 @@
 // frames. The implementation itself is held to the definitions in repair.rs.
 //
 // Refusal 18, several words that share the fewest disagreements, can't be had here: words are 28
-// data bits apart or more, so no two of them are within a limit of 12. For the same reason no test tells
-// the nearest word from the first one found, but by the live count.
+// data bits apart or more, so no two of them are within a limit of 12. For the same reason no test
+// tells the nearest word from the first one found, but by the live count.
 use wsprcard_tests::answers::{refused_repair as refused, repaired_answer};
 use wsprcard_tests::card;
 use wsprcard_tests::counts::Counts;

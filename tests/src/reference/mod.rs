@@ -1,4 +1,5 @@
-// An independent implementation of the card, written from the papers alone, one file a layer, and of the programs over it.
+// An independent implementation of the card, written from the papers alone, one file a layer, and
+// of the programs over it.
 pub mod frame;
 pub mod host;
 pub mod lines;
