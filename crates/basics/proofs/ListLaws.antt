@@ -5,13 +5,13 @@ use Prim.Native.Nat.{ℕ, zero, suc, _+_, _≤_, _<_}
 use native.Mathlib.Nat.{add-suc, add-zero, suc-add, zero-add}
 use native.Mathlib.Numerals.{add-one}
 use native.Mathlib.Omega.{arith}
-use mathlib.Core.Bool.{Bool, true, false, false≢true}
+use mathlib.Core.Bool.{Bool, true, false, not, true≢false, false≢true}
 use mathlib.Core.List.{List, [], _∷_, _++_}
 use lib.Dec.{eqb}
 use lib.ListN.{length, getD, drop, length-drop, drop-of-length-le}
 use lib.Seq.{drop-cons, drop-drop, getD-drop, ext-getD}
 use borrow.Author.Tests.{eqb-true, eq-eqb, ne-eqb}
-use Rattle.basics.specs.Lists.{tabulate, firstFailing, indexIn, sameList}
+use Rattle.basics.specs.Lists.{tabulate, firstFailing, isOther, indexIn, sameList}
 use Rattle.basics.proofs.Choice.{both-true, by-test, equal-or-not}
 
 -- ---- A list from an index on
@@ -213,13 +213,16 @@ module _ {A : Type 0} (test : ℕ → A → Bool) where
 -- What stands at a number's index is the number.
 pub getD-indexIn : (n : ℕ) (xs : List ℕ) (d : ℕ) → indexIn n xs < length xs → getD xs (indexIn n xs) d ≡ n
 unfolding indexIn
-getD-indexIn n [] d h = absurd (omega arith)
-getD-indexIn n (x ∷ xs) d h =
-    equal-or-not n x
-    (λ e. rw (eq-eqb n x e) (sym e))
-    (λ other.
-    let t = ne-eqb n x other in
-    rw t (getD-indexIn n xs d (omega (arith, rw t at h))))
+getD-indexIn n xs d h =
+    let found = getD xs (firstFailing (isOther n) 0 xs) d in
+    equal-or-not n found
+    (λ same. sym same)
+    (λ other. absurd (true≢false (sym (ap not (ne-eqb n found other)) ∙ fails-at (isOther n) d xs h)))
+
+-- A number that none of them is has the list's length as its index.
+pub indexIn-none : (n : ℕ) (xs : List ℕ) → AllPass (isOther n) 0 xs → indexIn n xs ≡ length xs
+unfolding indexIn
+indexIn-none n xs h = none-fails (isOther n) 0 xs h ∙ zero-add (length xs)
 
 -- ---- Whether two lists are the same
 

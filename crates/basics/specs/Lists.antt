@@ -1,7 +1,7 @@
 -- Lists by their places: a list by a rule, the first place where a test fails, the first test that is false, the index of a number, and
 -- whether two lists are the same.
 use Prim.Native.Nat.{ℕ, zero, suc}
-use mathlib.Core.Bool.{Bool, true, false, cond, _&&_}
+use mathlib.Core.Bool.{Bool, true, false, cond, not, _&&_}
 use mathlib.Core.List.{List, [], _∷_}
 use lib.Dec.{eqb}
 
@@ -23,10 +23,13 @@ isTrue place test = test
 abbrev pub firstFalse : List Bool → ℕ
 firstFalse tests = firstFailing isTrue 0 tests
 
+-- The element at a place is another number than n.
+abbrev pub isOther : ℕ → ℕ → ℕ → Bool
+isOther n place x = not (eqb n x)
+
 -- The index of a number in a list; the list's length where it isn't there.
 unfoldable pub indexIn : ℕ → List ℕ → ℕ
-indexIn n [] = 0
-indexIn n (x ∷ xs) = cond (eqb n x) 0 (suc (indexIn n xs))
+indexIn n xs = firstFailing (isOther n) 0 xs
 
 -- The two lists are the same.
 unfoldable pub sameList : List ℕ → List ℕ → Bool

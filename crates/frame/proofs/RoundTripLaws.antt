@@ -1,5 +1,5 @@
 -- The round trips, and that each reader refuses exactly what its matching writer never makes (demand 2), of the definitions of the answers.
-use mathlib.Core.Path.{_≡_, refl, sym, _∙_, subst}
+use mathlib.Core.Path.{_≡_, refl, sym, _∙_, subst, ap}
 use Prim.Native.Nat.{ℕ, _^_, _<_}
 use mathlib.Core.Bool.{not}
 use mathlib.Core.List.{List}
@@ -8,7 +8,8 @@ use Rattle.basics.specs.Lists.{sameList}
 use Rattle.basics.proofs.Choice.{cond-passed, by-test}
 use Rattle.basics.proofs.ListLaws.{sameList-equal}
 use Rattle.refusal.specs.declared.Refusal.{Refusal}
-use Rattle.message.specs.Answer.{rightLengths, packed, unpacked, callsignAfter, locatorAfter, contentAfter}
+use Rattle.refusal.specs.Refusals.{refusal, noWord}
+use Rattle.message.specs.Answer.{rightLengths, packed, unpacked, callsignAfter, locatorAfter, contentAfter, packedNumbers}
 use Rattle.message.specs.Word.{wordOf, callsignOf, locatorOf}
 use Rattle.message.specs.RoundTrip.{IsRefused}
 use Rattle.message.specs.declared.Packed.{Packed}
@@ -19,10 +20,10 @@ use Rattle.convolution.specs.Decoding.{decodedWord}
 use Rattle.convolution.proofs.DecodingLaws.{decodedWord-below}
 use Rattle.frame.specs.Symbols.{frameOf, receivedBits}
 use Rattle.frame.specs.Answer.{wordWritten, messageWritten, frameAfter, frameAfterWord, frameAfterMessage, wordOfData, wordRead, messageFrom, callsignFrom, locatorFrom, messageRead, callsignRead, locatorRead}
-use Rattle.frame.specs.RoundTrip.{WordReadsBack, WordWritesAs, WordWritesBack, NeverFromWord, ReadRefused, WordRefusedExactly, NoWordRefused, ReadsAsMessage, MessageReadsBack, MessageWritesAs, MessageWritesBack, NeverFromMessage, MessageRefusedExactly}
+use Rattle.frame.specs.RoundTrip.{WordReadsBack, WordWritesAs, WordWritesBack, NeverFromWord, ReadRefused, WordRefusedExactly, RightForm, NoWord, NoWordRefused, ReadsAsMessage, MessageReadsBack, MessageWritesAs, MessageWritesBack, NeverFromMessage, MessageRefusedExactly}
 use Rattle.frame.specs.declared.Written.{Written}
 use Rattle.frame.proofs.SymbolLaws.{length-frameOf, frameOf-injective}
-use Rattle.frame.proofs.AnswerLaws.{written-done, done-of-word, after-word-done, message-done, done-of-message, after-message-done, word-of-read, form-of-none, read-frameOf, read-form}
+use Rattle.frame.proofs.AnswerLaws.{written-done, done-of-word, after-word-done, message-done, done-of-message, after-message-done, word-of-read, form-of-none, read-none, read-frameOf, read-form}
 
 -- ---- A word and its frame
 
@@ -68,16 +69,22 @@ word-refused-exactly frame = (never, λ none. exact (wordRead frame) refl none)
     exact (Packed.Refused f) e none = tt
 
 -- Refusal 9.
-pub no-word-refused : (frame : List ℕ) → NoWordRefused (wordRead frame) frame
+none-refused : (frame : List ℕ) → RightForm frame → NoWord frame → wordRead frame ≡ Packed.Refused (refusal noWord 0)
 unfolding wordOfData
+none-refused frame form none =
+    let word = decodedWord (receivedBits frame) in
+    read-form frame form
+    ∙ by-test (sameList (frameOf word) frame)
+    (λ t. absurd (none word (decodedWord-below (receivedBits frame)) (sameList-equal _ _ t)))
+    (λ t. rw t)
+
+pub no-word-refused : (frame : List ℕ) → NoWordRefused (wordRead frame) frame
+unfolding packedNumbers
 no-word-refused frame = (
-  λ e. (form-of-none frame e, λ word h same. word-not-refused frame word h same (subst ReadRefused (sym e) tt)),
-  λ (form, none).
-      let word = decodedWord (receivedBits frame) in
-      read-form frame form
-      ∙ by-test (sameList (frameOf word) frame)
-      (λ t. absurd (none word (decodedWord-below (receivedBits frame)) (sameList-equal _ _ t)))
-      (λ t. rw t),
+  λ nine.
+      let e = read-none frame nine in
+      (form-of-none frame e, λ word h same. word-not-refused frame word h same (subst ReadRefused (sym e) tt)),
+  λ (form, none). ap (λ (answer : Packed). packedNumbers answer .number) (none-refused frame form none),
 )
 
 -- ---- A message and its frame

@@ -5,7 +5,8 @@ use mathlib.Core.Path.{_≡_}
 use mathlib.Core.Logic.{_↔_}
 use mathlib.Core.List.{List}
 use lib.ListN.{length, getD}
-use Rattle.refusal.specs.Refusals.{refusal, noWord}
+use Rattle.refusal.specs.Refusals.{noWord}
+use Rattle.message.specs.Answer.{packedNumbers}
 use Rattle.message.specs.RoundTrip.{IsRefused}
 use Rattle.message.specs.declared.Given.{Given}
 use Rattle.frame.specs.Symbols.{syncAt, frameOf, RightSymbols}
@@ -59,7 +60,7 @@ NoWord frame = (word : ℕ) → word < 2 ^ 50 → frameOf word ≡ frame → ⊥
 
 -- Refusal 9 is given exactly where the form is right, so that 1, 7 and 8 do not apply, and no word has the frame.
 abbrev pub NoWordRefused : Packed → List ℕ → Type 0
-NoWordRefused answer frame = (answer ≡ Packed.Refused (refusal noWord 0)) ↔ (RightForm frame × NoWord frame)
+NoWordRefused answer frame = (packedNumbers answer .number ≡ noWord) ↔ (RightForm frame × NoWord frame)
 
 -- ---- A message and its frame
 

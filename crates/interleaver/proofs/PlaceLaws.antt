@@ -8,7 +8,7 @@ use lib.Bits.{bitAnd, bitOr}
 use lib.Dec.{eqb, ltb}
 use lib.ListN.{length, getD, take}
 use borrow.Author.Tests.{eqb-true, ltb-true}
-use Rattle.basics.specs.Lists.{indexIn}
+use Rattle.basics.specs.Lists.{firstFailing, indexIn}
 use Rattle.basics.proofs.Choice.{both-true}
 use Rattle.basics.proofs.ListLaws.{getD-tabulate}
 use Rattle.basics.proofs.Tables.{every-below, below-at}
@@ -54,11 +54,11 @@ undone-at f g tested i h =
     (ltb-true _ _ (tests .0), eqb-true _ _ (tests .1))
 
 places-undone : every-below (undone placeOf orderOf) 162 ≡ true
-unfolding undone placeOf orderOf places placesFrom reversed reversedIn indexIn
+unfolding undone placeOf orderOf places placesFrom reversed reversedIn indexIn firstFailing
 places-undone = refl
 
 order-undone : every-below (undone orderOf placeOf) 162 ≡ true
-unfolding undone placeOf orderOf places placesFrom reversed reversedIn indexIn
+unfolding undone placeOf orderOf places placesFrom reversed reversedIn indexIn firstFailing
 order-undone = refl
 
 pub placeOf-below : (index : ℕ) → index < 162 → placeOf index < 162

@@ -1,15 +1,14 @@
 // The disagreements that a step adds.
 ghost use mathlib.Core.Path.{_≡_};
 ghost use Prim.Native.Nat.{_*_, _≤_, _<_};
-ghost use mathlib.Core.Bool.{cond};
-ghost use lib.Dec.{eqb};
 ghost use lib.ListN.{length, drop, replicate, set};
+ghost use Rattle.distance.specs.Prefixes.{unlike};
 ghost use Rattle.distance.specs.Steps.{stepCost, zeroCost, branchCost};
 use super::prefix;
 
 // 1 where two bits differ.
 fn unlike(x: u8, y: u8) -> u32
-    ensures { λ r. ⌜ r ≡ cond (eqb x y) 0 1 ⌝ }
+    ensures { λ r. ⌜ r ≡ unlike x y ⌝ }
 {
     if x == y { 0 } else { 1 }
 }

@@ -1,25 +1,21 @@
 -- A layer's answer is the one in its result, since no refusal has the number 0. So the export promises what the layer promises.
 use mathlib.Core.Path.{_≡_, refl, sym, ap, _∙_}
-use Prim.Native.Nat.{ℕ, _<_}
+use Prim.Native.Nat.{_<_}
 use native.Mathlib.Omega.{arith}
 use mathlib.Core.Bool.{Bool, true, false, cond}
-use mathlib.Core.List.{List}
 use lib.Dec.{eqb}
 use borrow.Author.Tests.{eqb-true}
 use Rattle.refusal.specs.declared.Refusal.{Refusal}
 use Rattle.message.specs.Answer.{packedNumbers, givenNumbers}
 use Rattle.message.specs.declared.Packed.{Packed}
 use Rattle.message.specs.declared.Given.{Given}
-use Rattle.frame.specs.Answer.{writtenRefusal, wordRead}
-use Rattle.frame.specs.RoundTrip.{NoWordRefused}
+use Rattle.frame.specs.Answer.{writtenRefusal}
 use Rattle.frame.specs.declared.Written.{Written}
-use Rattle.frame.proofs.AnswerLaws.{read-none}
 use Rattle.repair.specs.Answer.{repairNumbers}
 use Rattle.repair.specs.declared.Repaired.{Repaired}
 use Rattle.telemetry.specs.Answer.{decodedNumbers}
 use Rattle.telemetry.specs.declared.Decoded.{Decoded}
-use Rattle.wsprcard.specs.Results.{writtenResult, wordResult, messageResult, repairedResult, readingResult, answerIn, writtenIn, packedIn, givenIn, repairedIn, decodedIn, NoWordExactly}
-use Rattle.wsprcard.specs.declared.WsprWord.{WsprWord}
+use Rattle.wsprcard.specs.Results.{writtenResult, wordResult, messageResult, repairedResult, readingResult, answerIn, writtenIn, packedIn, givenIn, repairedIn, decodedIn}
 
 -- The answer is the one in its result.
 pub record Found {A S : Type 0} (result : A → S) (found : S → A) (a : A) : Type 0 where
@@ -72,11 +68,3 @@ pub decoded-found : (a : Decoded) → (decodedNumbers a .number ≡ 0 → a ≡ 
 unfolding readingResult decodedNumbers
 decoded-found (Decoded.Telemetry r) answered = record { again = refl }
 decoded-found (Decoded.Refused f) answered = record { again = refused-found Decoded.Refused f answered }
-
--- ---- Refusal 9, by its number
-
-pub no-word-exactly : (frame : List ℕ) {r : WsprWord} → r ≡ wordResult (packedNumbers (wordRead frame)) → NoWordRefused (wordRead frame) frame
-    → NoWordExactly r frame
-unfolding wordResult packedNumbers
-no-word-exactly frame result none =
-    rw result (λ nine. none .0 (read-none frame nine), λ given. ap (λ (a : Packed). packedNumbers a .number) (none .1 given))

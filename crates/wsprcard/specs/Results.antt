@@ -1,18 +1,14 @@
 -- The structs of the C interface for the answers of the layers, and the layers' answers in them.
 use Prim.Native.Nat.{ℕ}
-use mathlib.Core.Path.{_≡_}
-use mathlib.Core.Logic.{_↔_}
 use mathlib.Core.Bool.{cond}
-use mathlib.Core.List.{List}
 use lib.Dec.{eqb}
 use lib.IntN.{ℤ}
-use Rattle.refusal.specs.Refusals.{refusal, noWord}
+use Rattle.refusal.specs.Refusals.{refusal}
 use Rattle.refusal.specs.declared.Refusal.{Refusal}
 use Rattle.message.specs.Answer.{WordNumbers, PowerNumbers}
 use Rattle.message.specs.declared.Packed.{Packed}
 use Rattle.message.specs.declared.Given.{Given}
 use Rattle.frame.specs.Answer.{writtenRefusal}
-use Rattle.frame.specs.RoundTrip.{RightForm, NoWord}
 use Rattle.frame.specs.declared.Written.{Written}
 use Rattle.repair.specs.Answer.{RepairNumbers}
 use Rattle.repair.specs.declared.Repaired.{Repaired}
@@ -101,11 +97,6 @@ decodedIn r =
       gps = r .gps;
     }))
     Decoded.Refused
-
--- Refusal 9 is given exactly where the form is right and no 50-bit word has the frame. This is said of the number alone, as a host
--- tests it; the layer's `NoWordRefused` says it of number and place.
-abbrev pub NoWordExactly : WsprWord → List ℕ → Type 0
-NoWordExactly r frame = (r .refusal ≡ noWord) ↔ (RightForm frame × NoWord frame)
 
 -- ---- The arguments of telemetry as the layer's record
 

@@ -4,12 +4,12 @@ ghost use mathlib.Core.Path.{_≡_};
 ghost use Rattle.message.specs.Answer.{packed, unpacked, callsignAfter, locatorAfter, packedNumbers, givenNumbers};
 ghost use Rattle.message.specs.RoundTrip.{ReadsBack, PacksBack, RefusesExactly};
 ghost use Rattle.frame.specs.Answer.{wordWritten, messageWritten, frameAfterWord, frameAfterMessage, wordRead, messageRead, callsignRead, locatorRead};
-ghost use Rattle.frame.specs.RoundTrip.{WordReadsBack, WordWritesBack, WordRefusedExactly, MessageReadsBack, MessageWritesBack, MessageRefusedExactly};
+ghost use Rattle.frame.specs.RoundTrip.{WordReadsBack, WordWritesBack, WordRefusedExactly, NoWordRefused, MessageReadsBack, MessageWritesBack, MessageRefusedExactly};
 ghost use Rattle.repair.specs.Answer.{repaired, repairNumbers};
 ghost use Rattle.repair.specs.Demand.{AsChecked, AsDemanded, TwoFlipsRepaired};
 ghost use Rattle.telemetry.specs.Answer.{written, decoded, decodedNumbers, callsignWritten, locatorWritten};
 ghost use Rattle.telemetry.specs.RoundTrip as Telemetry;
-ghost use Rattle.wsprcard.specs.Results.{writtenResult, wordResult, messageResult, repairedResult, readingResult, writtenIn, packedIn, givenIn, repairedIn, decodedIn, measuredFrom, NoWordExactly};
+ghost use Rattle.wsprcard.specs.Results.{writtenResult, wordResult, messageResult, repairedResult, readingResult, writtenIn, packedIn, givenIn, repairedIn, decodedIn, measuredFrom};
 use frame::Written;
 use message::Given;
 use message::Packed;
@@ -230,7 +230,7 @@ pub extern "C" fn wspr_read_word(frame: &[u8]) -> WsprWord
     ensures answer { λ r. ⌜ r ≡ wordResult (packedNumbers (wordRead (now (frame .entry)))) ⌝ }
     ensures writes_back { λ r. ⌜ WordWritesBack (packedIn r) (now (frame .entry)) ⌝ }
     ensures refuses_exactly { λ r. ⌜ WordRefusedExactly (packedIn r) (now (frame .entry)) ⌝ }
-    ensures no_word { λ r. ⌜ NoWordExactly r (now (frame .entry)) ⌝ }
+    ensures no_word { λ r. ⌜ NoWordRefused (packedIn r) (now (frame .entry)) ⌝ }
 {
     word_result(frame::read_word(frame))
 }
