@@ -10,7 +10,7 @@ const FIRST_MASK: u32 = 0xF2D0_5351;
 const SECOND_MASK: u32 = 0xE461_3C47;
 
 // The parity of a masked register, 0 or 1.
-fn parity(mask: u32, register: u32) -> u8
+fn masked_parity(mask: u32, register: u32) -> u8
     ensures { λ r. ⌜ r ≡ parity mask register ⌝ }
 {
     (u32::count_ones(register & mask) % 2) as u8
@@ -20,14 +20,14 @@ fn parity(mask: u32, register: u32) -> u8
 pub fn first_coded(register: u32) -> u8
     ensures { λ r. ⌜ r ≡ parity firstMask register ⌝ }
 {
-    parity(FIRST_MASK, register)
+    masked_parity(FIRST_MASK, register)
 }
 
 // The second coded bit of a register.
 pub fn second_coded(register: u32) -> u8
     ensures { λ r. ⌜ r ≡ parity secondMask register ⌝ }
 {
-    parity(SECOND_MASK, register)
+    masked_parity(SECOND_MASK, register)
 }
 
 // The register after a bit: shifted left, the new bit lowest. Both registers of the definition hold

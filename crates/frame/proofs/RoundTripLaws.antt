@@ -9,19 +9,19 @@ use Rattle.basics.proofs.Choice.{cond-passed, by-test}
 use Rattle.basics.proofs.ListLaws.{sameList-equal}
 use Rattle.refusal.specs.declared.Refusal.{Refusal}
 use Rattle.refusal.specs.Refusals.{refusal, noWord}
-use Rattle.message.specs.Answer.{rightLengths, packed, unpacked, callsignAfter, locatorAfter, contentAfter, packedNumbers}
+use Rattle.message.specs.Answer.{rightLengths, packed, unpacked, callsignAfterUnpack, locatorAfterUnpack, contentAfter, wordNumbers}
 use Rattle.message.specs.Word.{wordOf, callsignOf, locatorOf}
-use Rattle.message.specs.RoundTrip.{IsRefused}
-use Rattle.message.specs.declared.Packed.{Packed}
-use Rattle.message.specs.declared.Given.{Given}
+use Rattle.message.specs.RoundTrip.{MessageRefused}
+use Rattle.message.specs.declared.WordAnswer.{WordAnswer}
+use Rattle.message.specs.declared.MessageAnswer.{MessageAnswer}
 use Rattle.message.proofs.AnswerLaws.{right-lengths, unpacked-read, refused-no-power}
 use Rattle.message.proofs.RoundTripLaws.{unpack-pack, pack-unpack}
 use Rattle.convolution.specs.Decoding.{decodedWord}
 use Rattle.convolution.proofs.DecodingLaws.{decodedWord-below}
 use Rattle.frame.specs.Symbols.{frameOf, receivedBits}
-use Rattle.frame.specs.Answer.{wordWritten, messageWritten, frameAfter, frameAfterWord, frameAfterMessage, wordOfData, wordRead, messageFrom, callsignFrom, locatorFrom, messageRead, callsignRead, locatorRead}
-use Rattle.frame.specs.RoundTrip.{WordReadsBack, WordWritesAs, WordWritesBack, NeverFromWord, ReadRefused, WordRefusedExactly, RightForm, NoWord, NoWordRefused, ReadsAsMessage, MessageReadsBack, MessageWritesAs, MessageWritesBack, NeverFromMessage, MessageRefusedExactly}
-use Rattle.frame.specs.declared.Written.{Written}
+use Rattle.frame.specs.Answer.{wordWritten, messageWritten, frameAfter, frameAfterWord, frameAfterMessage, wordOfData, wordRead, messageIfWord, callsignIfWord, locatorIfWord, messageRead, callsignAfterRead, locatorAfterRead}
+use Rattle.frame.specs.RoundTrip.{WordReadsBack, WordWritesAs, WordWritesBack, NeverFromWord, WordRefused, WordRefusedExactly, RightForm, NoWord, NoWordRefused, ReadsAsMessage, MessageReadsBack, MessageWritesAs, MessageWritesBack, NeverFromMessage, MessageRefusedExactly}
+use Rattle.frame.specs.declared.WriteAnswer.{WriteAnswer}
 use Rattle.frame.proofs.SymbolLaws.{length-frameOf, frameOf-injective}
 use Rattle.frame.proofs.AnswerLaws.{written-done, done-of-word, after-word-done, message-done, done-of-message, after-message-done, word-of-read, form-of-none, read-none, read-frameOf, read-form}
 
@@ -30,12 +30,12 @@ use Rattle.frame.proofs.AnswerLaws.{written-done, done-of-word, after-w
 pub word-reads-back : (frame : List ℕ) (word : ℕ) → WordReadsBack (wordWritten frame word) word (frameAfterWord frame word)
 word-reads-back frame word = go (wordWritten frame word) refl
   where
-    go : (answer : Written) → wordWritten frame word ≡ answer → WordReadsBack answer word (frameAfterWord frame word)
-    go Written.Done e =
+    go : (answer : WriteAnswer) → wordWritten frame word ≡ answer → WordReadsBack answer word (frameAfterWord frame word)
+    go WriteAnswer.Done e =
         let below = done-of-word frame word e .1 in
         rw (after-word-done frame word e)
         (record { its-word = read-frameOf word below; no-other = λ other h same. frameOf-injective other word h below same })
-    go (Written.Refused f) e = tt
+    go (WriteAnswer.Refused f) e = tt
 
 -- A word with this frame writes it.
 word-writes-as : (word : ℕ) (frame : List ℕ) → word < 2 ^ 50 → frameOf word ≡ frame → WordWritesAs word frame
@@ -46,30 +46,30 @@ word-writes-as word frame h same before right =
 pub word-writes-back : (frame : List ℕ) → WordWritesBack (wordRead frame) frame
 word-writes-back frame = go (wordRead frame) refl
   where
-    go : (answer : Packed) → wordRead frame ≡ answer → WordWritesBack answer frame
-    go (Packed.Word w) e = let made = word-of-read frame w e in word-writes-as w frame (made .0) (made .1)
-    go (Packed.Refused f) e = tt
+    go : (answer : WordAnswer) → wordRead frame ≡ answer → WordWritesBack answer frame
+    go (WordAnswer.Word w) e = let made = word-of-read frame w e in word-writes-as w frame (made .0) (made .1)
+    go (WordAnswer.Refused f) e = tt
 
 -- A frame that some word has isn't refused.
-word-not-refused : (frame : List ℕ) (word : ℕ) → word < 2 ^ 50 → frameOf word ≡ frame → ReadRefused (wordRead frame) → ⊥
+word-not-refused : (frame : List ℕ) (word : ℕ) → word < 2 ^ 50 → frameOf word ≡ frame → WordRefused (wordRead frame) → ⊥
 word-not-refused frame word h e refused = rw (← e, read-frameOf word h) at refused
 
 pub word-refused-exactly : (frame : List ℕ) → WordRefusedExactly (wordRead frame) frame
 word-refused-exactly frame = (never, λ none. exact (wordRead frame) refl none)
   where
-    never : ReadRefused (wordRead frame) → NeverFromWord frame
+    never : WordRefused (wordRead frame) → NeverFromWord frame
     never refused before word done after =
         word-not-refused frame word (done-of-word before word done .1) (sym (after-word-done before word done) ∙ after) refused
 
-    exact : (answer : Packed) → wordRead frame ≡ answer → NeverFromWord frame → ReadRefused answer
-    exact (Packed.Word w) e none =
+    exact : (answer : WordAnswer) → wordRead frame ≡ answer → NeverFromWord frame → WordRefused answer
+    exact (WordAnswer.Word w) e none =
         let made = word-of-read frame w e in
         let written = word-writes-as w frame (made .0) (made .1) (frameOf w) (length-frameOf w) in
         none (frameOf w) w (written .0) (written .1)
-    exact (Packed.Refused f) e none = tt
+    exact (WordAnswer.Refused f) e none = tt
 
 -- Refusal 9.
-none-refused : (frame : List ℕ) → RightForm frame → NoWord frame → wordRead frame ≡ Packed.Refused (refusal noWord 0)
+none-refused : (frame : List ℕ) → RightForm frame → NoWord frame → wordRead frame ≡ WordAnswer.Refused (refusal noWord 0)
 unfolding wordOfData
 none-refused frame form none =
     let word = decodedWord (receivedBits frame) in
@@ -79,130 +79,130 @@ none-refused frame form none =
     (λ t. rw t)
 
 pub no-word-refused : (frame : List ℕ) → NoWordRefused (wordRead frame) frame
-unfolding packedNumbers
+unfolding wordNumbers
 no-word-refused frame = (
   λ nine.
       let e = read-none frame nine in
-      (form-of-none frame e, λ word h same. word-not-refused frame word h same (subst ReadRefused (sym e) tt)),
-  λ (form, none). ap (λ (answer : Packed). packedNumbers answer .number) (none-refused frame form none),
+      (form-of-none frame e, λ word h same. word-not-refused frame word h same (subst WordRefused (sym e) tt)),
+  λ (form, none). ap (λ (answer : WordAnswer). wordNumbers answer .number) (none-refused frame form none),
 )
 
 -- ---- A message and its frame
 
 -- A message's frame reads as the message.
-reads-as : (callsign locator : List ℕ) (power word : ℕ) → packed callsign locator power ≡ Packed.Word word
+reads-as : (callsign locator : List ℕ) (power word : ℕ) → packed callsign locator power ≡ WordAnswer.Word word
     → ReadsAsMessage (frameOf word) callsign locator power
-unfolding messageRead callsignRead locatorRead messageFrom callsignFrom locatorFrom callsignAfter locatorAfter contentAfter
+unfolding messageRead callsignAfterRead locatorAfterRead messageIfWord callsignIfWord locatorIfWord callsignAfterUnpack locatorAfterUnpack contentAfter
 reads-as callsign locator power word made c l six four =
     let back = unpack-pack callsign locator power word made in
     let read = read-frameOf word (back .in-50-bits) in
-    let answer : unpacked c l word ≡ Given.Power power = unpacked-read c l word (right-lengths c l six four) ∙ back .its-power in
+    let answer : unpacked c l word ≡ MessageAnswer.Power power = unpacked-read c l word (right-lengths c l six four) ∙ back .its-power in
     (rw read answer, (rw (read, answer) (back .its-callsign), rw (read, answer) (back .its-locator)))
 
 pub message-reads-back : (callsign locator : List ℕ) (power : ℕ) (frame : List ℕ)
     → MessageReadsBack (messageWritten callsign locator power frame) callsign locator power (frameAfterMessage callsign locator power frame)
 message-reads-back callsign locator power frame = go (messageWritten callsign locator power frame) refl
   where
-    go : (answer : Written) → messageWritten callsign locator power frame ≡ answer
+    go : (answer : WriteAnswer) → messageWritten callsign locator power frame ≡ answer
         → MessageReadsBack answer callsign locator power (frameAfterMessage callsign locator power frame)
-    go Written.Done e =
+    go WriteAnswer.Done e =
         rw (after-message-done callsign locator power frame e)
         (reads-as callsign locator power (wordOf callsign locator power) (done-of-message callsign locator power frame e .1))
-    go (Written.Refused f) e = tt
+    go (WriteAnswer.Refused f) e = tt
 
 -- A message with this word writes its frame.
-writes-as : (callsign locator : List ℕ) (power word : ℕ) (frame : List ℕ) → packed callsign locator power ≡ Packed.Word word
+writes-as : (callsign locator : List ℕ) (power word : ℕ) (frame : List ℕ) → packed callsign locator power ≡ WordAnswer.Word word
     → frameOf word ≡ frame → MessageWritesAs callsign locator power frame
 writes-as callsign locator power word frame made same before right =
     let written = message-done callsign locator power before word right made in
     (written .0, written .1 ∙ same)
 
 -- The answer with a power is that of a frame with a word that has that power.
-power-of-read : (frame c l : List ℕ) (power : ℕ) → messageRead frame c l ≡ Given.Power power
-    → MessageWritesAs (callsignRead frame c l) (locatorRead frame c l) power frame
-unfolding messageRead callsignRead locatorRead messageFrom callsignFrom locatorFrom callsignAfter locatorAfter contentAfter unpacked
+power-of-read : (frame c l : List ℕ) (power : ℕ) → messageRead frame c l ≡ MessageAnswer.Power power
+    → MessageWritesAs (callsignAfterRead frame c l) (locatorAfterRead frame c l) power frame
+unfolding messageRead callsignAfterRead locatorAfterRead messageIfWord callsignIfWord locatorIfWord callsignAfterUnpack locatorAfterUnpack contentAfter unpacked
 power-of-read frame c l power = go (wordRead frame) refl
   where
-    go : (answer : Packed) → wordRead frame ≡ answer → messageFrom answer c l ≡ Given.Power power
-        → MessageWritesAs (callsignFrom answer c l) (locatorFrom answer c l) power frame
-    go (Packed.Refused f) e read = absurd (refused-no-power f power read)
-    go (Packed.Word w) e read =
+    go : (answer : WordAnswer) → wordRead frame ≡ answer → messageIfWord answer c l ≡ MessageAnswer.Power power
+        → MessageWritesAs (callsignIfWord answer c l) (locatorIfWord answer c l) power frame
+    go (WordAnswer.Refused f) e read = absurd (refused-no-power f power read)
+    go (WordAnswer.Word w) e read =
         let its-power = cond-passed (not (rightLengths (length c) (length l))) read (refused-no-power _ power) .1 in
         rw read (writes-as (callsignOf w) (locatorOf w) power w frame (pack-unpack w power its-power) (word-of-read frame w e .1))
 
 pub message-writes-back : (frame c l : List ℕ)
-    → MessageWritesBack (messageRead frame c l) frame (callsignRead frame c l) (locatorRead frame c l)
+    → MessageWritesBack (messageRead frame c l) frame (callsignAfterRead frame c l) (locatorAfterRead frame c l)
 message-writes-back frame c l = go (messageRead frame c l) refl
   where
-    go : (answer : Given) → messageRead frame c l ≡ answer → MessageWritesBack answer frame (callsignRead frame c l) (locatorRead frame c l)
-    go (Given.Power p) e = power-of-read frame c l p e
-    go (Given.Refused f) e = tt
+    go : (answer : MessageAnswer) → messageRead frame c l ≡ answer → MessageWritesBack answer frame (callsignAfterRead frame c l) (locatorAfterRead frame c l)
+    go (MessageAnswer.Power p) e = power-of-read frame c l p e
+    go (MessageAnswer.Refused f) e = tt
 
 pub message-refused-exactly : (frame c l : List ℕ) → MessageRefusedExactly (messageRead frame c l) frame c l
 message-refused-exactly frame c l six four = (never, λ none. exact (messageRead frame c l) refl none)
   where
-    never : IsRefused (messageRead frame c l) → NeverFromMessage frame
+    never : MessageRefused (messageRead frame c l) → NeverFromMessage frame
     never refused callsign locator power before done after =
         let made = done-of-message callsign locator power before done .1 in
         let same = sym (after-message-done callsign locator power before done) ∙ after in
         let read = reads-as callsign locator power (wordOf callsign locator power) made c l six four .0 in
         rw (← same, read) at refused
 
-    exact : (answer : Given) → messageRead frame c l ≡ answer → NeverFromMessage frame → IsRefused answer
-    exact (Given.Power p) e none =
+    exact : (answer : MessageAnswer) → messageRead frame c l ≡ answer → NeverFromMessage frame → MessageRefused answer
+    exact (MessageAnswer.Power p) e none =
         let made = power-of-read frame c l p e (frameOf 0) (length-frameOf 0) in
-        none (callsignRead frame c l) (locatorRead frame c l) p (frameOf 0) (made .0) (made .1)
-    exact (Given.Refused f) e none = tt
+        none (callsignAfterRead frame c l) (locatorAfterRead frame c l) p (frameOf 0) (made .0) (made .1)
+    exact (MessageAnswer.Refused f) e none = tt
 
 -- ---- What each function promises, from its answer and what the lent buffers then hold
 
 module _ (frame : List ℕ) (word : ℕ) where
-  abbrev pub WriteWordPromised : Written → List ℕ → Type 0
+  abbrev pub WriteWordPromised : WriteAnswer → List ℕ → Type 0
   WriteWordPromised answer content =
       (answer ≡ wordWritten frame word) × ((content ≡ frameAfterWord frame word) × WordReadsBack answer word content)
 
-  pub write-word-promised : (answer : Written) (content : List ℕ) → answer ≡ wordWritten frame word → content ≡ frameAfterWord frame word
+  pub write-word-promised : (answer : WriteAnswer) (content : List ℕ) → answer ≡ wordWritten frame word → content ≡ frameAfterWord frame word
       → WriteWordPromised answer content
   write-word-promised answer content e e₂ = (e, (e₂, rw (e, e₂) (word-reads-back frame word)))
 
-  pub write-word-refused : (f : Refusal) → wordWritten frame word ≡ Written.Refused f → WriteWordPromised (Written.Refused f) frame
+  pub write-word-refused : (f : Refusal) → wordWritten frame word ≡ WriteAnswer.Refused f → WriteWordPromised (WriteAnswer.Refused f) frame
   unfolding frameAfterWord frameAfter
-  write-word-refused f e = write-word-promised (Written.Refused f) frame (sym e) (rw e)
+  write-word-refused f e = write-word-promised (WriteAnswer.Refused f) frame (sym e) (rw e)
 
 module _ (callsign locator : List ℕ) (power : ℕ) (frame : List ℕ) where
-  abbrev pub WriteMessagePromised : Written → List ℕ → Type 0
+  abbrev pub WriteMessagePromised : WriteAnswer → List ℕ → Type 0
   WriteMessagePromised answer content =
       (answer ≡ messageWritten callsign locator power frame)
       × ((content ≡ frameAfterMessage callsign locator power frame) × MessageReadsBack answer callsign locator power content)
 
-  pub write-message-promised : (answer : Written) (content : List ℕ) → answer ≡ messageWritten callsign locator power frame
+  pub write-message-promised : (answer : WriteAnswer) (content : List ℕ) → answer ≡ messageWritten callsign locator power frame
       → content ≡ frameAfterMessage callsign locator power frame → WriteMessagePromised answer content
   write-message-promised answer content e e₂ = (e, (e₂, rw (e, e₂) (message-reads-back callsign locator power frame)))
 
-  pub write-message-refused : (f : Refusal) → messageWritten callsign locator power frame ≡ Written.Refused f
-      → WriteMessagePromised (Written.Refused f) frame
+  pub write-message-refused : (f : Refusal) → messageWritten callsign locator power frame ≡ WriteAnswer.Refused f
+      → WriteMessagePromised (WriteAnswer.Refused f) frame
   unfolding frameAfterMessage frameAfter
-  write-message-refused f e = write-message-promised (Written.Refused f) frame (sym e) (rw e)
+  write-message-refused f e = write-message-promised (WriteAnswer.Refused f) frame (sym e) (rw e)
 
 module _ (frame : List ℕ) where
-  abbrev pub ReadWordPromised : Packed → Type 0
+  abbrev pub ReadWordPromised : WordAnswer → Type 0
   ReadWordPromised answer =
       (answer ≡ wordRead frame) × (WordWritesBack answer frame × (WordRefusedExactly answer frame × NoWordRefused answer frame))
 
-  pub read-word-promised : (answer : Packed) → wordRead frame ≡ answer → ReadWordPromised answer
+  pub read-word-promised : (answer : WordAnswer) → wordRead frame ≡ answer → ReadWordPromised answer
   read-word-promised answer e =
       subst ReadWordPromised e (refl, (word-writes-back frame, (word-refused-exactly frame, no-word-refused frame)))
 
 module _ (frame callsign locator : List ℕ) where
-  abbrev pub ReadMessagePromised : Given → List ℕ → List ℕ → Type 0
+  abbrev pub ReadMessagePromised : MessageAnswer → List ℕ → List ℕ → Type 0
   ReadMessagePromised answer its-callsign its-locator =
       (answer ≡ messageRead frame callsign locator)
-      × ((its-callsign ≡ callsignRead frame callsign locator)
-      × ((its-locator ≡ locatorRead frame callsign locator)
+      × ((its-callsign ≡ callsignAfterRead frame callsign locator)
+      × ((its-locator ≡ locatorAfterRead frame callsign locator)
       × (MessageWritesBack answer frame its-callsign its-locator × MessageRefusedExactly answer frame callsign locator)))
 
-  read-message-promised : (answer : Given) (its-callsign its-locator : List ℕ) → answer ≡ messageRead frame callsign locator
-      → its-callsign ≡ callsignRead frame callsign locator → its-locator ≡ locatorRead frame callsign locator
+  read-message-promised : (answer : MessageAnswer) (its-callsign its-locator : List ℕ) → answer ≡ messageRead frame callsign locator
+      → its-callsign ≡ callsignAfterRead frame callsign locator → its-locator ≡ locatorAfterRead frame callsign locator
       → ReadMessagePromised answer its-callsign its-locator
   read-message-promised answer its-callsign its-locator e e₂ e₃ =
       let back : MessageWritesBack answer frame its-callsign its-locator = rw (e, e₂, e₃) (message-writes-back frame callsign locator) in
@@ -210,14 +210,14 @@ module _ (frame callsign locator : List ℕ) where
       (e, (e₂, (e₃, (back, exactly))))
 
   -- The first refusal is the one returned.
-  pub read-message-refused : (f : Refusal) → wordRead frame ≡ Packed.Refused f → ReadMessagePromised (Given.Refused f) callsign locator
-  unfolding messageRead callsignRead locatorRead messageFrom callsignFrom locatorFrom
-  read-message-refused f e = read-message-promised (Given.Refused f) callsign locator (rw e) (rw e) (rw e)
+  pub read-message-refused : (f : Refusal) → wordRead frame ≡ WordAnswer.Refused f → ReadMessagePromised (MessageAnswer.Refused f) callsign locator
+  unfolding messageRead callsignAfterRead locatorAfterRead messageIfWord callsignIfWord locatorIfWord
+  read-message-refused f e = read-message-promised (MessageAnswer.Refused f) callsign locator (rw e) (rw e) (rw e)
 
   -- A frame with a word is read as the word is.
-  pub read-message-word : (word : ℕ) (answer : Given) (its-callsign its-locator : List ℕ) → wordRead frame ≡ Packed.Word word
-      → answer ≡ unpacked callsign locator word → its-callsign ≡ callsignAfter callsign locator word
-      → its-locator ≡ locatorAfter callsign locator word → ReadMessagePromised answer its-callsign its-locator
-  unfolding messageRead callsignRead locatorRead messageFrom callsignFrom locatorFrom
+  pub read-message-word : (word : ℕ) (answer : MessageAnswer) (its-callsign its-locator : List ℕ) → wordRead frame ≡ WordAnswer.Word word
+      → answer ≡ unpacked callsign locator word → its-callsign ≡ callsignAfterUnpack callsign locator word
+      → its-locator ≡ locatorAfterUnpack callsign locator word → ReadMessagePromised answer its-callsign its-locator
+  unfolding messageRead callsignAfterRead locatorAfterRead messageIfWord callsignIfWord locatorIfWord
   read-message-word word answer its-callsign its-locator e e₂ e₃ e₄ =
       read-message-promised answer its-callsign its-locator (rw e e₂) (rw e e₃) (rw e e₄)

@@ -17,8 +17,8 @@ use Rattle.convolution.specs.Code.{codedBits}
 use Rattle.convolution.specs.Decoding.{decodedWord}
 use Rattle.convolution.proofs.CodeLaws.{length-codedBits, codedBits-below}
 use Rattle.convolution.proofs.DecodingLaws.{decode-encode}
-use Rattle.interleaver.specs.Places.{placeOf, orderOf}
-use Rattle.interleaver.proofs.PlaceLaws.{placeOf-below, orderOf-below, orderOf-placeOf, placeOf-orderOf}
+use Rattle.interleaver.specs.Places.{placeOf, indexAt}
+use Rattle.interleaver.proofs.PlaceLaws.{placeOf-below, indexAt-below, indexAt-placeOf, placeOf-indexAt}
 use Rattle.frame.specs.Symbols.{syncVector, syncAt, symbolAt, frameOf, RightSymbols, receivedBits, synced, unsyncedAt, wrongSyncIn}
 use Rattle.frame.specs.Answer.{small, firstLarge, firstWrongSync}
 use Rattle.frame.specs.RoundTrip.{RightForm}
@@ -42,13 +42,13 @@ sync-below place = ltb-true _ _ (every-at (λ s. ltb s 2) syncVector 0 refl refl
 module _ (word place : ℕ) where
   symbol-to-3 : symbolAt (codedBits word) place ≤ 3
   unfolding symbolAt
-  symbol-to-3 = omega (arith, sync-below place, codedBits-below word (orderOf place))
+  symbol-to-3 = omega (arith, sync-below place, codedBits-below word (indexAt place))
 
   symbol-sync : symbolAt (codedBits word) place % 2 ≡ syncAt place
   unfolding symbolAt
   symbol-sync = omega (arith, sync-below place)
 
-  symbol-data : symbolAt (codedBits word) place / 2 ≡ getD (codedBits word) (orderOf place) 0
+  symbol-data : symbolAt (codedBits word) place / 2 ≡ getD (codedBits word) (indexAt place) 0
   unfolding symbolAt
   symbol-data = omega (arith, sync-below place)
 
@@ -91,7 +91,7 @@ received-frameOf word =
     (by-rule 162 (λ index. getD (frameOf word) (placeOf index) 0 / 2) (codedBits word) (length-codedBits word)
     (λ index h.
     let there = getD-frameOf word (placeOf index) (placeOf-below index h) in
-    rw (there, symbol-data word (placeOf index), orderOf-placeOf index h)))
+    rw (there, symbol-data word (placeOf index), indexAt-placeOf index h)))
 
 -- So the word is read back, and different words have different frames.
 pub decoded-frameOf : (word : ℕ) → word < 2 ^ 50 → decodedWord (receivedBits (frameOf word)) ≡ word
@@ -108,12 +108,12 @@ frame-by-data word frame form e =
     ext-getD 0 (frameOf word) frame (length-frameOf word ∙ sym (form .right-symbols .right-length))
     (λ place h.
     let within : place < 162 = omega (arith, length-frameOf word) in
-    let index : orderOf place < 162 = orderOf-below place within in
-    let its-data : getD (codedBits word) (orderOf place) 0 ≡ getD frame place 0 / 2 =
-    ap (λ (l : List ℕ). getD l (orderOf place) 0) e
-    ∙ getD-receivedBits frame (orderOf place) index
-    ∙ ap (λ (p : ℕ). getD frame p 0 / 2) (placeOf-orderOf place within) in
-    let whole : syncAt place + 2 * getD (codedBits word) (orderOf place) 0 ≡ getD frame place 0 = omega (arith, form .right-sync place within) in
+    let index : indexAt place < 162 = indexAt-below place within in
+    let its-data : getD (codedBits word) (indexAt place) 0 ≡ getD frame place 0 / 2 =
+    ap (λ (l : List ℕ). getD l (indexAt place) 0) e
+    ∙ getD-receivedBits frame (indexAt place) index
+    ∙ ap (λ (p : ℕ). getD frame p 0 / 2) (placeOf-indexAt place within) in
+    let whole : syncAt place + 2 * getD (codedBits word) (indexAt place) 0 ≡ getD frame place 0 = omega (arith, form .right-sync place within) in
     getD-frameOf word place within ∙ whole)
 
 -- ---- The right form, by the first place that hasn't it

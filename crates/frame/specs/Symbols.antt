@@ -8,7 +8,7 @@ use lib.ListN.{length, getD}
 use Rattle.basics.specs.Below.{countBelow}
 use Rattle.basics.specs.Lists.{tabulate}
 use Rattle.convolution.specs.Code.{codedBits}
-use Rattle.interleaver.specs.Places.{placeOf, orderOf}
+use Rattle.interleaver.specs.Places.{placeOf, indexAt}
 
 -- "The sync vector is the table in 002; its printed "0.0" near the end is two zeros, and it has 162 entries."
 unfoldable pub syncVector : List ℕ
@@ -25,7 +25,7 @@ syncAt place = getD syncVector place 0
 
 -- The data bit of a place is the coded bit that goes there; "Symbol n is sync n plus twice data n."
 unfoldable pub symbolAt : List ℕ → ℕ → ℕ
-symbolAt coded place = syncAt place + 2 * getD coded (orderOf place) 0
+symbolAt coded place = syncAt place + 2 * getD coded (indexAt place) 0
 
 -- The frame of a word.
 unfoldable pub frameOf : ℕ → List ℕ

@@ -5,7 +5,7 @@ ghost use lib.ListN.{length};
 ghost use Rattle.frame.specs.Symbols.{frameOf, receivedBits, wrongSyncIn};
 ghost use Rattle.frame.specs.Answer.{firstLarge, firstWrongSync, wordOfData};
 use super::sync::sync_vector;
-use message::Packed;
+use message::WordAnswer;
 use refusal::NO_WORD;
 use refusal::Refusal;
 
@@ -15,11 +15,11 @@ pub(crate) fn write_symbols(word: u64, frame: &mut [u8])
     ensures { λ _. ⌜ now (frame .exit) ≡ frameOf word ⌝ }
 {
     let coded = convolution::encode(word);
-    let order = interleaver::order();
+    let indexes = interleaver::indexes();
     let sync = sync_vector();
     let mut place = 0;
     while place < 162 {
-        frame[place] = sync[place] + 2 * coded[order[place] as usize];
+        frame[place] = sync[place] + 2 * coded[indexes[place] as usize];
         place += 1;
     }
 }
@@ -89,7 +89,7 @@ pub fn received_bits(frame: &[u8]) -> [u8; 162]
 
 // The word of a frame whose symbols and sync bits are right, or that there is none. Only one word
 // may have its data bits: that one is encoded anew, and compared.
-pub(crate) fn word_of_data(frame: &[u8]) -> Packed
+pub(crate) fn word_of_data(frame: &[u8]) -> WordAnswer
     requires { ⌜ length (now frame) ≡ 162 ⌝ }
     requires { ⌜ 162 ≤ firstLarge (now frame) ⌝ }
     requires { ⌜ 162 ≤ firstWrongSync (now frame) ⌝ }
@@ -99,10 +99,10 @@ pub(crate) fn word_of_data(frame: &[u8]) -> Packed
     let word = convolution::decode(received);
     let coded = convolution::encode(word);
     if !check::same(&coded, &received) {
-        return Packed::Refused(Refusal {
+        return WordAnswer::Refused(Refusal {
             number: NO_WORD,
             place: 0,
         });
     }
-    Packed::Word(word)
+    WordAnswer::Word(word)
 }

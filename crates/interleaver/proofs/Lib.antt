@@ -1,3 +1,3 @@
--- `PlaceLaws`: the places and their inverse. `Turns`: one turn of the loops of `places` and `order`.
+-- `PlaceLaws`: the places and their inverse. `Turns`: one turn of the loops of `places` and `indexes`.
 pub mod PlaceLaws
 mod Turns

@@ -12,7 +12,7 @@ use Rattle.basics.specs.Lists.{firstFailing, indexIn}
 use Rattle.basics.proofs.Choice.{both-true}
 use Rattle.basics.proofs.ListLaws.{getD-tabulate}
 use Rattle.basics.proofs.Tables.{every-below, below-at}
-use Rattle.interleaver.specs.Places.{reversedIn, reversed, placesFrom, places, placeOf, orderOf, order}
+use Rattle.interleaver.specs.Places.{reversedIn, reversed, placesFrom, allPlaces, placeOf, indexAt, allIndexes}
 
 -- ---- Reversed addresses
 
@@ -30,16 +30,16 @@ exchanged-reversed address h = eqb-true _ _ (below-at (λ a. eqb (exchanged a) (
 
 -- ---- The places
 
-pub length-places : length places ≡ 162
-unfolding places placesFrom reversed reversedIn
+pub length-places : length allPlaces ≡ 162
+unfolding allPlaces placesFrom reversed reversedIn
 length-places = refl
 
 -- "So S0, S1, S2, S3 go to places 0, 128, 64, 32."
-first-places : take 4 places ≡ 0 ∷ 128 ∷ 64 ∷ 32 ∷ []
-unfolding places placesFrom reversed reversedIn
+first-places : take 4 allPlaces ≡ 0 ∷ 128 ∷ 64 ∷ 32 ∷ []
+unfolding allPlaces placesFrom reversed reversedIn
 first-places = refl
 
-pub getD-places : (index : ℕ) → getD places index 0 ≡ placeOf index
+pub getD-places : (index : ℕ) → getD allPlaces index 0 ≡ placeOf index
 unfolding placeOf
 getD-places index = refl
 
@@ -53,26 +53,26 @@ undone-at f g tested i h =
     let tests = both-true (ltb (f i) 162) _ (below-at (undone f g) 162 tested i h) in
     (ltb-true _ _ (tests .0), eqb-true _ _ (tests .1))
 
-places-undone : every-below (undone placeOf orderOf) 162 ≡ true
-unfolding undone placeOf orderOf places placesFrom reversed reversedIn indexIn firstFailing
+places-undone : every-below (undone placeOf indexAt) 162 ≡ true
+unfolding undone placeOf indexAt allPlaces placesFrom reversed reversedIn indexIn firstFailing
 places-undone = refl
 
-order-undone : every-below (undone orderOf placeOf) 162 ≡ true
-unfolding undone placeOf orderOf places placesFrom reversed reversedIn indexIn firstFailing
-order-undone = refl
+indexes-undone : every-below (undone indexAt placeOf) 162 ≡ true
+unfolding undone placeOf indexAt allPlaces placesFrom reversed reversedIn indexIn firstFailing
+indexes-undone = refl
 
 pub placeOf-below : (index : ℕ) → index < 162 → placeOf index < 162
-placeOf-below index h = undone-at placeOf orderOf places-undone index h .0
+placeOf-below index h = undone-at placeOf indexAt places-undone index h .0
 
-pub orderOf-placeOf : (index : ℕ) → index < 162 → orderOf (placeOf index) ≡ index
-orderOf-placeOf index h = undone-at placeOf orderOf places-undone index h .1
+pub indexAt-placeOf : (index : ℕ) → index < 162 → indexAt (placeOf index) ≡ index
+indexAt-placeOf index h = undone-at placeOf indexAt places-undone index h .1
 
-pub orderOf-below : (place : ℕ) → place < 162 → orderOf place < 162
-orderOf-below place h = undone-at orderOf placeOf order-undone place h .0
+pub indexAt-below : (place : ℕ) → place < 162 → indexAt place < 162
+indexAt-below place h = undone-at indexAt placeOf indexes-undone place h .0
 
-pub placeOf-orderOf : (place : ℕ) → place < 162 → placeOf (orderOf place) ≡ place
-placeOf-orderOf place h = undone-at orderOf placeOf order-undone place h .1
+pub placeOf-indexAt : (place : ℕ) → place < 162 → placeOf (indexAt place) ≡ place
+placeOf-indexAt place h = undone-at indexAt placeOf indexes-undone place h .1
 
-pub getD-order : (place : ℕ) → place < 162 → getD order place 0 ≡ orderOf place
-unfolding order
-getD-order place h = getD-tabulate 162 orderOf place h
+pub getD-indexes : (place : ℕ) → place < 162 → getD allIndexes place 0 ≡ indexAt place
+unfolding allIndexes
+getD-indexes place h = getD-tabulate 162 indexAt place h

@@ -24,17 +24,17 @@ placesFrom (suc n) i =
     cond (ltb (reversed i) 162) (reversed i ∷ rest) rest
 
 -- The place of each coded bit, in coded order: "So S0, S1, S2, S3 go to places 0, 128, 64, 32."
-unfoldable pub places : List ℕ
-places = placesFrom 256 0
+unfoldable pub allPlaces : List ℕ
+allPlaces = placesFrom 256 0
 
 unfoldable pub placeOf : ℕ → ℕ
-placeOf index = getD places index 0
+placeOf index = getD allPlaces index 0
 
--- Its inverse: the index of the coded bit that goes to a place. That each undoes the other is `orderOf-placeOf` and `placeOf-orderOf` of
+-- Its inverse: the index of the coded bit that goes to a place. That each undoes the other is `indexAt-placeOf` and `placeOf-indexAt` of
 -- proofs/PlaceLaws.antt.
-unfoldable pub orderOf : ℕ → ℕ
-orderOf place = indexIn place places
+unfoldable pub indexAt : ℕ → ℕ
+indexAt place = indexIn place allPlaces
 
 -- The index of each place's coded bit.
-unfoldable pub order : List ℕ
-order = tabulate 162 orderOf
+unfoldable pub allIndexes : List ℕ
+allIndexes = tabulate 162 indexAt

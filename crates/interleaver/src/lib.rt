@@ -3,7 +3,7 @@ ghost use mathlib.Core.Path.{_≡_};
 ghost use mathlib.Core.Bool.{cond};
 ghost use Prim.Native.Nat.{_+_, _<_};
 ghost use lib.Dec.{ltb};
-ghost use Rattle.interleaver.specs.Places.{reversed, places, order};
+ghost use Rattle.interleaver.specs.Places.{reversed, allPlaces, allIndexes};
 
 // The address with its eight bits reversed: its halves exchanged, then its pairs, then its bits.
 fn reversed(address: u8) -> u8
@@ -24,7 +24,7 @@ fn moved(counter: usize, place: u8) -> usize
 
 // The place of each coded bit.
 pub fn places() -> [u8; 162]
-    ensures { λ r. ⌜ r ≡ places ⌝ }
+    ensures { λ r. ⌜ r ≡ allPlaces ⌝ }
 {
     let mut places = [0u8; 162];
     let mut counter = 0;
@@ -41,15 +41,15 @@ pub fn places() -> [u8; 162]
 }
 
 // The index of each place's coded bit.
-pub fn order() -> [u8; 162]
-    ensures { λ r. ⌜ r ≡ order ⌝ }
+pub fn indexes() -> [u8; 162]
+    ensures { λ r. ⌜ r ≡ allIndexes ⌝ }
 {
     let places = places();
-    let mut order = [0u8; 162];
+    let mut indexes = [0u8; 162];
     let mut i = 0;
     while i < 162 {
-        order[places[i] as usize] = i as u8;
+        indexes[places[i] as usize] = i as u8;
         i += 1;
     }
-    order
+    indexes
 }

@@ -13,10 +13,10 @@ use Rattle.refusal.specs.Refusals.{refusal, wrongLength, badCharacter, badPower
 use Rattle.message.specs.Character.{firstBad, legalAt}
 use Rattle.power.specs.Powers.{legalPower}
 use Rattle.message.specs.Word.{wordOf, callsignPart, locatorPart, powerPart}
-use Rattle.message.specs.Answer.{rightLengths, checked, wordIf, packed, wordAnswer, unpacked, packedNumbers, givenNumbers}
-use Rattle.message.specs.declared.Checked.{Checked}
-use Rattle.message.specs.declared.Packed.{Packed}
-use Rattle.message.specs.declared.Given.{Given}
+use Rattle.message.specs.Answer.{rightLengths, checked, wordIf, packed, wordMessage, unpacked, wordNumbers, messageNumbers}
+use Rattle.message.specs.declared.CheckAnswer.{CheckAnswer}
+use Rattle.message.specs.declared.WordAnswer.{WordAnswer}
+use Rattle.message.specs.declared.MessageAnswer.{MessageAnswer}
 use Rattle.message.proofs.CharacterLaws.{AllLegal}
 use Rattle.basics.proofs.ListLaws.{all-pass, firstFailing-first, firstFailing-append, none-fails}
 
@@ -41,32 +41,32 @@ pub record Legal (callsign locator : List ℕ) (power : ℕ) : Type 0 where
   pub power-legal : legalPower power ≡ true
 
 module _ (callsign locator : List ℕ) (power : ℕ) where
-  pub checked-length : rightLengths (length callsign) (length locator) ≡ false → checked callsign locator power ≡ Checked.Refused (refusal wrongLength 0)
+  pub checked-length : rightLengths (length callsign) (length locator) ≡ false → checked callsign locator power ≡ CheckAnswer.Refused (refusal wrongLength 0)
   unfolding checked
   checked-length e = rw e
 
   module _ (right : rightLengths (length callsign) (length locator) ≡ true) where
     pub checked-character : (bad : ℕ) → firstBad 0 (callsign ++ locator) ≡ bad → bad < 10
-        → checked callsign locator power ≡ Checked.Refused (refusal badCharacter bad)
+        → checked callsign locator power ≡ CheckAnswer.Refused (refusal badCharacter bad)
     unfolding checked
     checked-character bad e h = rw (right, e, lt-ltb bad 10 h)
 
     module _ (good : 10 ≤ firstBad 0 (callsign ++ locator)) where
-      pub checked-power : legalPower power ≡ false → checked callsign locator power ≡ Checked.Refused (refusal badPower 0)
+      pub checked-power : legalPower power ≡ false → checked callsign locator power ≡ CheckAnswer.Refused (refusal badPower 0)
       unfolding checked
       checked-power e = rw (right, le-ltb _ 10 good, e)
 
-      pub checked-legal : legalPower power ≡ true → checked callsign locator power ≡ Checked.Legal
+      pub checked-legal : legalPower power ≡ true → checked callsign locator power ≡ CheckAnswer.Legal
       unfolding checked
       checked-legal e = rw (right, le-ltb _ 10 good, e)
 
   -- ---- The cases of packing it
 
-  pub packed-refused : (f : Refusal) → checked callsign locator power ≡ Checked.Refused f → packed callsign locator power ≡ Packed.Refused f
+  pub packed-refused : (f : Refusal) → checked callsign locator power ≡ CheckAnswer.Refused f → packed callsign locator power ≡ WordAnswer.Refused f
   unfolding packed wordIf
   packed-refused f e = rw e
 
-  pub packed-word : checked callsign locator power ≡ Checked.Legal → packed callsign locator power ≡ Packed.Word (wordOf callsign locator power)
+  pub packed-word : checked callsign locator power ≡ CheckAnswer.Legal → packed callsign locator power ≡ WordAnswer.Word (wordOf callsign locator power)
   unfolding packed wordIf
   packed-word e = rw e
 
@@ -89,10 +89,10 @@ legal-message callsign locator power right good legal =
     let parts = legal-parts callsign locator (lengths .0) (lengths .1) good in
     record { six = lengths .0; four = lengths .1; callsign-legal = parts .0; locator-legal = parts .1; power-legal = legal }
 
-refused-not-legal : (f : Refusal) → Checked.Refused f ≡ Checked.Legal → ⊥
+refused-not-legal : (f : Refusal) → CheckAnswer.Refused f ≡ CheckAnswer.Legal → ⊥
 refused-not-legal f e = let z : _≡_ {A = ℕ} 0 1 = cc in omega arith
 
-pub legal-of-checked : (callsign locator : List ℕ) (power : ℕ) → checked callsign locator power ≡ Checked.Legal → Legal callsign locator power
+pub legal-of-checked : (callsign locator : List ℕ) (power : ℕ) → checked callsign locator power ≡ CheckAnswer.Legal → Legal callsign locator power
 unfolding checked
 legal-of-checked callsign locator power e =
     let lengths = cond-passed (not (rightLengths (length callsign) (length locator))) e (refused-not-legal _) in
@@ -101,24 +101,24 @@ legal-of-checked callsign locator power e =
     legal-message callsign locator power (not-false _ (lengths .0)) (ltb-false _ _ (characters .0)) (not-false _ (its-power .0))
 
 -- A refusal is no word.
-pub refused-no-word : (f : Refusal) (word : ℕ) → Packed.Refused f ≡ Packed.Word word → ⊥
+pub refused-no-word : (f : Refusal) (word : ℕ) → WordAnswer.Refused f ≡ WordAnswer.Word word → ⊥
 refused-no-word f word e = let z : _≡_ {A = ℕ} 0 1 = cc in omega arith
 
-pub legal-of-packed : (callsign locator : List ℕ) (power word : ℕ) → packed callsign locator power ≡ Packed.Word word
+pub legal-of-packed : (callsign locator : List ℕ) (power word : ℕ) → packed callsign locator power ≡ WordAnswer.Word word
     → Legal callsign locator power × (word ≡ wordOf callsign locator power)
 legal-of-packed callsign locator power word e = go (checked callsign locator power) refl
   where
-    go : (answer : Checked) → checked callsign locator power ≡ answer → Legal callsign locator power × (word ≡ wordOf callsign locator power)
-    go Checked.Legal c =
+    go : (answer : CheckAnswer) → checked callsign locator power ≡ answer → Legal callsign locator power × (word ≡ wordOf callsign locator power)
+    go CheckAnswer.Legal c =
         let made = packed-word callsign locator power c in
         (legal-of-checked callsign locator power c, cc)
-    go (Checked.Refused f) c = absurd (refused-no-word f word (sym (packed-refused callsign locator power f c) ∙ e))
+    go (CheckAnswer.Refused f) c = absurd (refused-no-word f word (sym (packed-refused callsign locator power f c) ∙ e))
 
 -- ---- The cases of reading a word
 
 module _ (word : ℕ) where
-  pub wordAnswer-callsign : 262_177_560 ≤ callsignPart word → wordAnswer word ≡ Given.Refused (refusal wordTooLarge 0)
-  unfolding wordAnswer
+  pub wordAnswer-callsign : 262_177_560 ≤ callsignPart word → wordMessage word ≡ MessageAnswer.Refused (refusal wordTooLarge 0)
+  unfolding wordMessage
   wordAnswer-callsign h = rw (le-leb 262_177_560 _ h, or-true (leb (2 ^ 50) word))
 
   module _ (callsign : callsignPart word < 262_177_560) where
@@ -127,27 +127,27 @@ module _ (word : ℕ) where
     unfolding callsignPart
     in-50-bits = omega arith
 
-    pub wordAnswer-locator : 32_400 ≤ locatorPart word → wordAnswer word ≡ Given.Refused (refusal badLocatorNumber 0)
-    unfolding wordAnswer
+    pub wordAnswer-locator : 32_400 ≤ locatorPart word → wordMessage word ≡ MessageAnswer.Refused (refusal badLocatorNumber 0)
+    unfolding wordMessage
     wordAnswer-locator h = rw (lt-leb (2 ^ 50) word in-50-bits, lt-leb 262_177_560 _ callsign, le-leb 32_400 _ h)
 
     module _ (locator : locatorPart word < 32_400) where
       -- What is left is the power's test.
-      wordAnswer-past-locator : wordAnswer word
-          ≡ cond (ltb (powerPart word) 64 || not (legalPower (powerPart word - 64))) (Given.Refused (refusal badPowerBits 0))
-          (Given.Power (powerPart word - 64))
-      unfolding wordAnswer
+      wordAnswer-past-locator : wordMessage word
+          ≡ cond (ltb (powerPart word) 64 || not (legalPower (powerPart word - 64))) (MessageAnswer.Refused (refusal badPowerBits 0))
+          (MessageAnswer.Power (powerPart word - 64))
+      unfolding wordMessage
       wordAnswer-past-locator = rw (lt-leb (2 ^ 50) word in-50-bits, lt-leb 262_177_560 _ callsign, lt-leb 32_400 _ locator)
 
-      pub wordAnswer-low : powerPart word < 64 → wordAnswer word ≡ Given.Refused (refusal badPowerBits 0)
+      pub wordAnswer-low : powerPart word < 64 → wordMessage word ≡ MessageAnswer.Refused (refusal badPowerBits 0)
       wordAnswer-low h = wordAnswer-past-locator ∙ rw (lt-ltb _ 64 h)
 
       pub wordAnswer-illegal : 64 ≤ powerPart word → legalPower (powerPart word - 64) ≡ false
-          → wordAnswer word ≡ Given.Refused (refusal badPowerBits 0)
+          → wordMessage word ≡ MessageAnswer.Refused (refusal badPowerBits 0)
       wordAnswer-illegal h e = wordAnswer-past-locator ∙ rw (le-ltb _ 64 h, e)
 
       pub wordAnswer-power : 64 ≤ powerPart word → legalPower (powerPart word - 64) ≡ true
-          → wordAnswer word ≡ Given.Power (powerPart word - 64)
+          → wordMessage word ≡ MessageAnswer.Power (powerPart word - 64)
       wordAnswer-power h e = wordAnswer-past-locator ∙ rw (le-ltb _ 64 h, e)
 
 -- What a word is that is read.
@@ -158,11 +158,11 @@ pub record Readable (word power : ℕ) : Type 0 where
   pub is-power : power ≡ powerPart word - 64
   pub power-legal : legalPower power ≡ true
 
-pub refused-no-power : (f : Refusal) (power : ℕ) → Given.Refused f ≡ Given.Power power → ⊥
+pub refused-no-power : (f : Refusal) (power : ℕ) → MessageAnswer.Refused f ≡ MessageAnswer.Power power → ⊥
 refused-no-power f power e = let z : _≡_ {A = ℕ} 0 1 = cc in omega arith
 
-pub readable : (word power : ℕ) → wordAnswer word ≡ Given.Power power → Readable word power
-unfolding wordAnswer
+pub readable : (word power : ℕ) → wordMessage word ≡ MessageAnswer.Power power → Readable word power
+unfolding wordMessage
 readable word power e =
     let size = cond-passed (leb (2 ^ 50) word || leb 262_177_560 (callsignPart word)) e (refused-no-power _ power) in
     let its-locator = cond-passed (leb 32_400 (locatorPart word)) (size .1) (refused-no-power _ power) in
@@ -180,21 +180,21 @@ readable word power e =
 -- ---- The cases of unpacking into lent buffers
 
 module _ (callsign locator : List ℕ) (word : ℕ) where
-  pub unpacked-length : rightLengths (length callsign) (length locator) ≡ false → unpacked callsign locator word ≡ Given.Refused (refusal wrongLength 0)
+  pub unpacked-length : rightLengths (length callsign) (length locator) ≡ false → unpacked callsign locator word ≡ MessageAnswer.Refused (refusal wrongLength 0)
   unfolding unpacked
   unpacked-length e = rw e
 
-  pub unpacked-read : rightLengths (length callsign) (length locator) ≡ true → unpacked callsign locator word ≡ wordAnswer word
+  pub unpacked-read : rightLengths (length callsign) (length locator) ≡ true → unpacked callsign locator word ≡ wordMessage word
   unfolding unpacked
   unpacked-read e = rw e
 
 -- ---- The refusal number 0 is that of the answers that are no refusal
 
 -- No refusal of a check has the number 0.
-Nonzero : Checked → Type 0
-Nonzero answer = (f : Refusal) → answer ≡ Checked.Refused f → f .number ≡ 0 → ⊥
+Nonzero : CheckAnswer → Type 0
+Nonzero answer = (f : Refusal) → answer ≡ CheckAnswer.Refused f → f .number ≡ 0 → ⊥
 
-pub checked-nonzero : (callsign locator : List ℕ) (power : ℕ) (f : Refusal) → checked callsign locator power ≡ Checked.Refused f → f .number ≡ 0 → ⊥
+pub checked-nonzero : (callsign locator : List ℕ) (power : ℕ) (f : Refusal) → checked callsign locator power ≡ CheckAnswer.Refused f → f .number ≡ 0 → ⊥
 unfolding Nonzero checked
 checked-nonzero callsign locator power =
     let bad = firstBad 0 (callsign ++ locator) in
@@ -202,22 +202,22 @@ checked-nonzero callsign locator power =
     (cond-both Nonzero (ltb bad 10) (λ f e z. let n : badCharacter ≡ f .number = cc in omega arith)
     (cond-both Nonzero (not (legalPower power)) (λ f e z. let n : badPower ≡ f .number = cc in omega arith) (λ f e z. refused-not-legal f (sym e))))
 
-word-answered : (answer : Checked) (word : ℕ) → Nonzero answer → packedNumbers (wordIf answer word) .number ≡ 0
-    → wordIf answer word ≡ Packed.Word (packedNumbers (wordIf answer word) .word)
-unfolding Nonzero wordIf packedNumbers
-word-answered Checked.Legal word h z = refl
-word-answered (Checked.Refused f) word h z = absurd (h f refl z)
+word-answered : (answer : CheckAnswer) (word : ℕ) → Nonzero answer → wordNumbers (wordIf answer word) .number ≡ 0
+    → wordIf answer word ≡ WordAnswer.Word (wordNumbers (wordIf answer word) .word)
+unfolding Nonzero wordIf wordNumbers
+word-answered CheckAnswer.Legal word h z = refl
+word-answered (CheckAnswer.Refused f) word h z = absurd (h f refl z)
 
-pub packed-answered : (callsign locator : List ℕ) (power : ℕ) → packedNumbers (packed callsign locator power) .number ≡ 0
-    → packed callsign locator power ≡ Packed.Word (packedNumbers (packed callsign locator power) .word)
+pub packed-answered : (callsign locator : List ℕ) (power : ℕ) → wordNumbers (packed callsign locator power) .number ≡ 0
+    → packed callsign locator power ≡ WordAnswer.Word (wordNumbers (packed callsign locator power) .word)
 unfolding Nonzero packed
 packed-answered callsign locator power = word-answered (checked callsign locator power) _ (checked-nonzero callsign locator power)
 
-pub unpacked-answered : (callsign locator : List ℕ) (word : ℕ) → givenNumbers (unpacked callsign locator word) .number ≡ 0
-    → unpacked callsign locator word ≡ Given.Power (givenNumbers (unpacked callsign locator word) .power)
-unfolding unpacked wordAnswer givenNumbers
+pub unpacked-answered : (callsign locator : List ℕ) (word : ℕ) → messageNumbers (unpacked callsign locator word) .number ≡ 0
+    → unpacked callsign locator word ≡ MessageAnswer.Power (messageNumbers (unpacked callsign locator word) .power)
+unfolding unpacked wordMessage messageNumbers
 unpacked-answered callsign locator word =
-    let P : Given → Type 0 = λ a. givenNumbers a .number ≡ 0 → a ≡ Given.Power (givenNumbers a .power) in
+    let P : MessageAnswer → Type 0 = λ a. messageNumbers a .number ≡ 0 → a ≡ MessageAnswer.Power (messageNumbers a .power) in
     cond-both P (not (rightLengths (length callsign) (length locator))) (λ z. absurd (omega arith))
     (cond-both P (leb (2 ^ 50) word || leb 262_177_560 (callsignPart word)) (λ z. absurd (omega arith))
     (cond-both P (leb 32_400 (locatorPart word)) (λ z. absurd (omega arith))

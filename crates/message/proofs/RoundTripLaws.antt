@@ -8,10 +8,10 @@ use mathlib.Core.List.{List}
 use lib.ListN.{length}
 use Rattle.refusal.specs.declared.Refusal.{Refusal}
 use Rattle.message.specs.Word.{callsignNumber, locatorNumber, lowerNumber, wordFrom, wordOf, callsignPart, locatorPart, powerPart, callsignWithNumber, locatorWithNumber, callsignOf, locatorOf}
-use Rattle.message.specs.Answer.{rightLengths, packed, wordAnswer, unpacked, contentAfter, callsignAfter, locatorAfter}
-use Rattle.message.specs.RoundTrip.{ReadsAs, PacksBack, IsRefused, NeverMade, RefusesExactly}
-use Rattle.message.specs.declared.Packed.{Packed}
-use Rattle.message.specs.declared.Given.{Given}
+use Rattle.message.specs.Answer.{rightLengths, packed, wordMessage, unpacked, contentAfter, callsignAfterUnpack, locatorAfterUnpack}
+use Rattle.message.specs.RoundTrip.{UnpacksAs, PacksBack, MessageRefused, NeverPacked, UnpackRefusedExactly}
+use Rattle.message.specs.declared.WordAnswer.{WordAnswer}
+use Rattle.message.specs.declared.MessageAnswer.{MessageAnswer}
 use Rattle.power.proofs.Laws.{legal-power-end}
 use Rattle.message.proofs.WordLaws.{callsignNumber-below, callsignWithNumber-callsignNumber, callsignWithNumber-length, callsignWithNumber-legal, callsignNumber-callsignWithNumber, locatorNumber-below, locatorWithNumber-locatorNumber, locatorWithNumber-length, locatorWithNumber-legal, locatorNumber-locatorWithNumber, callsignPart-word, locatorPart-word, powerPart-word, word-below, word-of-parts}
 use Rattle.message.proofs.AnswerLaws.{right-lengths, checked-legal, packed-word, legal-whole, legal-of-packed, wordAnswer-power, readable, unpacked-read}
@@ -19,8 +19,8 @@ use Rattle.message.proofs.AnswerLaws.{right-lengths, checked-legal, pac
 -- ---- The round trips
 
 -- A packed message reads back.
-pub unpack-pack : (callsign locator : List ℕ) (power word : ℕ) → packed callsign locator power ≡ Packed.Word word
-    → ReadsAs word callsign locator power
+pub unpack-pack : (callsign locator : List ℕ) (power word : ℕ) → packed callsign locator power ≡ WordAnswer.Word word
+    → UnpacksAs word callsign locator power
 unfolding wordOf callsignOf locatorOf
 unpack-pack callsign locator power word e =
     let made = legal-of-packed callsign locator power word e in
@@ -37,13 +37,13 @@ unpack-pack callsign locator power word e =
     let same : powerPart w - 64 ≡ power = omega arith in
     rw (made .1) (record {
       in-50-bits = word-below n m1 power within end below;
-      its-power = wordAnswer-power w (omega arith) (omega arith) (omega arith) (rw same (l .power-legal)) ∙ ap Given.Power same;
+      its-power = wordAnswer-power w (omega arith) (omega arith) (omega arith) (rw same (l .power-legal)) ∙ ap MessageAnswer.Power same;
       its-callsign = rw its-n (callsignWithNumber-callsignNumber callsign (l .six) (l .callsign-legal));
       its-locator = rw its-m1 (locatorWithNumber-locatorNumber locator (l .four) (l .locator-legal));
     })
 
 -- A word that is read packs back.
-pub pack-unpack : (word power : ℕ) → wordAnswer word ≡ Given.Power power → packed (callsignOf word) (locatorOf word) power ≡ Packed.Word word
+pub pack-unpack : (word power : ℕ) → wordMessage word ≡ MessageAnswer.Power power → packed (callsignOf word) (locatorOf word) power ≡ WordAnswer.Word word
 unfolding wordOf callsignOf locatorOf
 pack-unpack word power e =
     let r = readable word power e in
@@ -54,40 +54,40 @@ pack-unpack word power e =
     (right-lengths (callsignWithNumber n) (locatorWithNumber m1) (callsignWithNumber-length n) (locatorWithNumber-length m1))
     (legal-whole _ _ (callsignWithNumber-length n) (locatorWithNumber-length m1) (callsignWithNumber-legal n) (locatorWithNumber-legal m1))
     (r .power-legal))
-    ∙ ap Packed.Word (rw (callsignNumber-callsignWithNumber n (r .callsign), locatorNumber-locatorWithNumber m1 (r .locator), r .is-power) (word-of-parts word (r .bits)))
+    ∙ ap WordAnswer.Word (rw (callsignNumber-callsignWithNumber n (r .callsign), locatorNumber-locatorWithNumber m1 (r .locator), r .is-power) (word-of-parts word (r .bits)))
 
 -- The reader refuses exactly the words that the writer never makes.
-pub refuses-exactly : (word : ℕ) → IsRefused (wordAnswer word) ↔ NeverMade word
-refuses-exactly word = (λ refused callsign locator power made. never refused (unpack-pack callsign locator power word made .its-power), λ never-made. exact (wordAnswer word) refl never-made)
+pub refuses-exactly : (word : ℕ) → MessageRefused (wordMessage word) ↔ NeverPacked word
+refuses-exactly word = (λ refused callsign locator power made. never refused (unpack-pack callsign locator power word made .its-power), λ never-made. exact (wordMessage word) refl never-made)
   where
-    never : {power : ℕ} → IsRefused (wordAnswer word) → wordAnswer word ≡ Given.Power power → ⊥
+    never : {power : ℕ} → MessageRefused (wordMessage word) → wordMessage word ≡ MessageAnswer.Power power → ⊥
     never refused e = rw e at refused
 
-    exact : (answer : Given) → wordAnswer word ≡ answer → NeverMade word → IsRefused answer
-    exact (Given.Power p) e never-made = never-made _ _ p (pack-unpack word p e)
-    exact (Given.Refused f) e never-made = tt
+    exact : (answer : MessageAnswer) → wordMessage word ≡ answer → NeverPacked word → MessageRefused answer
+    exact (MessageAnswer.Power p) e never-made = never-made _ _ p (pack-unpack word p e)
+    exact (MessageAnswer.Refused f) e never-made = tt
 
 -- ---- What unpacking into lent buffers promises, from its answer and what they then hold
 
 module _ (callsign locator : List ℕ) (word : ℕ) where
-  abbrev pub Promised : Given → List ℕ → List ℕ → Type 0
+  abbrev pub Promised : MessageAnswer → List ℕ → List ℕ → Type 0
   Promised answer its-callsign its-locator =
       (answer ≡ unpacked callsign locator word)
-      × ((its-callsign ≡ callsignAfter callsign locator word)
-      × ((its-locator ≡ locatorAfter callsign locator word)
-      × (PacksBack answer word its-callsign its-locator × RefusesExactly answer word callsign locator)))
+      × ((its-callsign ≡ callsignAfterUnpack callsign locator word)
+      × ((its-locator ≡ locatorAfterUnpack callsign locator word)
+      × (PacksBack answer word its-callsign its-locator × UnpackRefusedExactly answer word callsign locator)))
 
   -- With the lengths right the answer is the word's.
-  exactly : RefusesExactly (unpacked callsign locator word) word callsign locator
+  exactly : UnpackRefusedExactly (unpacked callsign locator word) word callsign locator
   exactly six four = rw (unpacked-read callsign locator word (right-lengths callsign locator six four)) (refuses-exactly word)
 
-  pub promised-refused : (f : Refusal) → unpacked callsign locator word ≡ Given.Refused f → Promised (Given.Refused f) callsign locator
-  unfolding callsignAfter locatorAfter contentAfter
+  pub promised-refused : (f : Refusal) → unpacked callsign locator word ≡ MessageAnswer.Refused f → Promised (MessageAnswer.Refused f) callsign locator
+  unfolding callsignAfterUnpack locatorAfterUnpack contentAfter
   promised-refused f e = (sym e, (rw e, (rw e, (tt, rw e at exactly))))
 
-  pub promised-power : (power : ℕ) → rightLengths (length callsign) (length locator) ≡ true → wordAnswer word ≡ Given.Power power
-      → Promised (Given.Power power) (callsignOf word) (locatorOf word)
-  unfolding callsignAfter locatorAfter contentAfter
+  pub promised-power : (power : ℕ) → rightLengths (length callsign) (length locator) ≡ true → wordMessage word ≡ MessageAnswer.Power power
+      → Promised (MessageAnswer.Power power) (callsignOf word) (locatorOf word)
+  unfolding callsignAfterUnpack locatorAfterUnpack contentAfter
   promised-power power right read =
       let e = unpacked-read callsign locator word right ∙ read in
       (sym e, (rw e, (rw e, (pack-unpack word power read, rw e at exactly))))

@@ -8,9 +8,9 @@ use Rattle.refusal.specs.Refusals.{refusal, wrongLength, badCharacter, badPower
 use Rattle.message.specs.Character.{firstBad}
 use Rattle.power.specs.Powers.{legalPower}
 use Rattle.message.specs.Word.{wordOf, callsignPart, locatorPart, powerPart, callsignOf, locatorOf}
-use Rattle.message.specs.declared.Checked.{Checked}
-use Rattle.message.specs.declared.Packed.{Packed}
-use Rattle.message.specs.declared.Given.{Given}
+use Rattle.message.specs.declared.CheckAnswer.{CheckAnswer}
+use Rattle.message.specs.declared.WordAnswer.{WordAnswer}
+use Rattle.message.specs.declared.MessageAnswer.{MessageAnswer}
 
 -- The lengths are those of a callsign, 6, and of a locator, 4.
 unfoldable pub rightLengths : ℕ → ℕ → Bool
@@ -19,49 +19,49 @@ rightLengths callsign locator = eqb callsign 6 && eqb locator 4
 -- ---- A message of legal characters and power
 
 -- "If several apply, the order is: triple 1, 2, 3"; "Within one number, the lowest place."
-unfoldable pub checked : List ℕ → List ℕ → ℕ → Checked
+unfoldable pub checked : List ℕ → List ℕ → ℕ → CheckAnswer
 checked callsign locator power =
     let bad = firstBad 0 (callsign ++ locator) in
-    cond (not (rightLengths (length callsign) (length locator))) (Checked.Refused (refusal wrongLength 0))
-    (cond (ltb bad 10) (Checked.Refused (refusal badCharacter bad))
-    (cond (not (legalPower power)) (Checked.Refused (refusal badPower 0)) Checked.Legal))
+    cond (not (rightLengths (length callsign) (length locator))) (CheckAnswer.Refused (refusal wrongLength 0))
+    (cond (ltb bad 10) (CheckAnswer.Refused (refusal badCharacter bad))
+    (cond (not (legalPower power)) (CheckAnswer.Refused (refusal badPower 0)) CheckAnswer.Legal))
 
 -- ---- From a message to its word
 
 -- The word where the message is legal, else its refusal.
-unfoldable pub wordIf : Checked → ℕ → Packed
-wordIf Checked.Legal word = Packed.Word word
-wordIf (Checked.Refused f) word = Packed.Refused f
+unfoldable pub wordIf : CheckAnswer → ℕ → WordAnswer
+wordIf CheckAnswer.Legal word = WordAnswer.Word word
+wordIf (CheckAnswer.Refused f) word = WordAnswer.Refused f
 
-unfoldable pub packed : List ℕ → List ℕ → ℕ → Packed
+unfoldable pub packed : List ℕ → List ℕ → ℕ → WordAnswer
 packed callsign locator power = wordIf (checked callsign locator power) (wordOf callsign locator power)
 
 -- ---- From a word to its message: "word 1 (if a buffer is lent), 4, 5, 6"
 
 -- A word's power, or why the word isn't a message's.
-unfoldable pub wordAnswer : ℕ → Given
-wordAnswer word =
-    cond (leb (2 ^ 50) word || leb 262_177_560 (callsignPart word)) (Given.Refused (refusal wordTooLarge 0))
-    (cond (leb 32_400 (locatorPart word)) (Given.Refused (refusal badLocatorNumber 0))
-    (cond (ltb (powerPart word) 64 || not (legalPower (powerPart word - 64))) (Given.Refused (refusal badPowerBits 0))
-    (Given.Power (powerPart word - 64))))
+unfoldable pub wordMessage : ℕ → MessageAnswer
+wordMessage word =
+    cond (leb (2 ^ 50) word || leb 262_177_560 (callsignPart word)) (MessageAnswer.Refused (refusal wordTooLarge 0))
+    (cond (leb 32_400 (locatorPart word)) (MessageAnswer.Refused (refusal badLocatorNumber 0))
+    (cond (ltb (powerPart word) 64 || not (legalPower (powerPart word - 64))) (MessageAnswer.Refused (refusal badPowerBits 0))
+    (MessageAnswer.Power (powerPart word - 64))))
 
 -- The answer, given what the lent callsign and locator hold.
-unfoldable pub unpacked : List ℕ → List ℕ → ℕ → Given
-unpacked callsign locator word = cond (not (rightLengths (length callsign) (length locator))) (Given.Refused (refusal wrongLength 0)) (wordAnswer word)
+unfoldable pub unpacked : List ℕ → List ℕ → ℕ → MessageAnswer
+unpacked callsign locator word = cond (not (rightLengths (length callsign) (length locator))) (MessageAnswer.Refused (refusal wrongLength 0)) (wordMessage word)
 
 -- What a lent buffer holds after the answer: what it held where that is a refusal, else the characters.
-unfoldable pub contentAfter : Given → List ℕ → List ℕ → List ℕ
-contentAfter (Given.Power p) before characters = characters
-contentAfter (Given.Refused f) before characters = before
+unfoldable pub contentAfter : MessageAnswer → List ℕ → List ℕ → List ℕ
+contentAfter (MessageAnswer.Power p) before characters = characters
+contentAfter (MessageAnswer.Refused f) before characters = before
 
 -- What the lent callsign then holds.
-unfoldable pub callsignAfter : List ℕ → List ℕ → ℕ → List ℕ
-callsignAfter callsign locator word = contentAfter (unpacked callsign locator word) callsign (callsignOf word)
+unfoldable pub callsignAfterUnpack : List ℕ → List ℕ → ℕ → List ℕ
+callsignAfterUnpack callsign locator word = contentAfter (unpacked callsign locator word) callsign (callsignOf word)
 
 -- What the lent locator then holds.
-unfoldable pub locatorAfter : List ℕ → List ℕ → ℕ → List ℕ
-locatorAfter callsign locator word = contentAfter (unpacked callsign locator word) locator (locatorOf word)
+unfoldable pub locatorAfterUnpack : List ℕ → List ℕ → ℕ → List ℕ
+locatorAfterUnpack callsign locator word = contentAfter (unpacked callsign locator word) locator (locatorOf word)
 
 -- ---- The result numbers of each answer: 0 where it has none
 
@@ -71,16 +71,16 @@ pub record WordNumbers : Type 0 where
   pub place : ℕ
   pub word : ℕ
 
-unfoldable pub packedNumbers : Packed → WordNumbers
-packedNumbers (Packed.Word w) = record { number = 0; place = 0; word = w }
-packedNumbers (Packed.Refused f) = record { number = f .number; place = f .place; word = 0 }
+unfoldable pub wordNumbers : WordAnswer → WordNumbers
+wordNumbers (WordAnswer.Word w) = record { number = 0; place = 0; word = w }
+wordNumbers (WordAnswer.Refused f) = record { number = f .number; place = f .place; word = 0 }
 
 -- Refusal number, place, power
-pub record PowerNumbers : Type 0 where
+pub record MessageNumbers : Type 0 where
   pub number : ℕ
   pub place : ℕ
   pub power : ℕ
 
-unfoldable pub givenNumbers : Given → PowerNumbers
-givenNumbers (Given.Power p) = record { number = 0; place = 0; power = p }
-givenNumbers (Given.Refused f) = record { number = f .number; place = f .place; power = 0 }
+unfoldable pub messageNumbers : MessageAnswer → MessageNumbers
+messageNumbers (MessageAnswer.Power p) = record { number = 0; place = 0; power = p }
+messageNumbers (MessageAnswer.Refused f) = record { number = f .number; place = f .place; power = 0 }

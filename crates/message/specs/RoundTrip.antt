@@ -5,38 +5,38 @@ use mathlib.Core.Path.{_≡_}
 use mathlib.Core.Logic.{_↔_}
 use mathlib.Core.List.{List}
 use lib.ListN.{length}
-use Rattle.message.specs.Answer.{packed, wordAnswer}
+use Rattle.message.specs.Answer.{packed, wordMessage}
 use Rattle.message.specs.Word.{callsignOf, locatorOf}
-use Rattle.message.specs.declared.Packed.{Packed}
-use Rattle.message.specs.declared.Given.{Given}
+use Rattle.message.specs.declared.WordAnswer.{WordAnswer}
+use Rattle.message.specs.declared.MessageAnswer.{MessageAnswer}
 
 -- The word reads as this message.
-pub record ReadsAs (word : ℕ) (callsign locator : List ℕ) (power : ℕ) : Type 0 where
+pub record UnpacksAs (word : ℕ) (callsign locator : List ℕ) (power : ℕ) : Type 0 where
   pub in-50-bits : word < 2 ^ 50
-  pub its-power : wordAnswer word ≡ Given.Power power
+  pub its-power : wordMessage word ≡ MessageAnswer.Power power
   pub its-callsign : callsignOf word ≡ callsign
   pub its-locator : locatorOf word ≡ locator
 
 -- What was packed reads back: the answer's word, where it has one, reads as the message.
-abbrev pub ReadsBack : Packed → List ℕ → List ℕ → ℕ → Type 0
-ReadsBack (Packed.Word w) callsign locator power = ReadsAs w callsign locator power
-ReadsBack (Packed.Refused f) callsign locator power = Unit
+abbrev pub UnpacksBack : WordAnswer → List ℕ → List ℕ → ℕ → Type 0
+UnpacksBack (WordAnswer.Word w) callsign locator power = UnpacksAs w callsign locator power
+UnpacksBack (WordAnswer.Refused f) callsign locator power = Unit
 
 -- What was read packs back: the callsign and locator with the answer's power, where it has one, have the word.
-abbrev pub PacksBack : Given → ℕ → List ℕ → List ℕ → Type 0
-PacksBack (Given.Power p) word callsign locator = packed callsign locator p ≡ Packed.Word word
-PacksBack (Given.Refused f) word callsign locator = Unit
+abbrev pub PacksBack : MessageAnswer → ℕ → List ℕ → List ℕ → Type 0
+PacksBack (MessageAnswer.Power p) word callsign locator = packed callsign locator p ≡ WordAnswer.Word word
+PacksBack (MessageAnswer.Refused f) word callsign locator = Unit
 
 -- The answer is a refusal.
-abbrev pub IsRefused : Given → Type 0
-IsRefused (Given.Power p) = ⊥
-IsRefused (Given.Refused f) = Unit
+abbrev pub MessageRefused : MessageAnswer → Type 0
+MessageRefused (MessageAnswer.Power p) = ⊥
+MessageRefused (MessageAnswer.Refused f) = Unit
 
 -- No message has this word. Lists of numbers that are no bytes and powers that are no u32 are never legal, so that nothing is added by
 -- naming them here.
-abbrev pub NeverMade : ℕ → Type 0
-NeverMade word = (callsign locator : List ℕ) (power : ℕ) → packed callsign locator power ≡ Packed.Word word → ⊥
+abbrev pub NeverPacked : ℕ → Type 0
+NeverPacked word = (callsign locator : List ℕ) (power : ℕ) → packed callsign locator power ≡ WordAnswer.Word word → ⊥
 
 -- With a callsign of six bytes and a locator of four lent, the answer is a refusal exactly where no message has the word.
-abbrev pub RefusesExactly : Given → ℕ → List ℕ → List ℕ → Type 0
-RefusesExactly answer word callsign locator = length callsign ≡ 6 → length locator ≡ 4 → IsRefused answer ↔ NeverMade word
+abbrev pub UnpackRefusedExactly : MessageAnswer → ℕ → List ℕ → List ℕ → Type 0
+UnpackRefusedExactly answer word callsign locator = length callsign ≡ 6 → length locator ≡ 4 → MessageRefused answer ↔ NeverPacked word

@@ -3,28 +3,28 @@ pub mod character;
 mod word;
 
 ghost use mathlib.Core.Path.{_≡_};
-ghost use Rattle.message.specs.Answer.{rightLengths, checked, packed, unpacked, callsignAfter, locatorAfter};
-ghost use Rattle.message.specs.RoundTrip.{ReadsBack, PacksBack, RefusesExactly};
+ghost use Rattle.message.specs.Answer.{rightLengths, checked, packed, unpacked, callsignAfterUnpack, locatorAfterUnpack};
+ghost use Rattle.message.specs.RoundTrip.{UnpacksBack, PacksBack, UnpackRefusedExactly};
 use refusal::BAD_CHARACTER;
 use refusal::BAD_POWER;
 use refusal::Refusal;
 use refusal::WRONG_LENGTH;
 
 // The answer of `check`.
-pub enum Checked {
+pub enum CheckAnswer {
     Legal,
     Refused(Refusal),
 }
 
 // A word, or why there is none: the answer of `pack`, and of what else gives a word.
-pub enum Packed {
+pub enum WordAnswer {
     Word(u64),
     Refused(Refusal),
 }
 
 // The answer of a function that gives a message: its power, beside the callsign and the locator that
 // are written.
-pub enum Given {
+pub enum MessageAnswer {
     Power(u32),
     Refused(Refusal),
 }
@@ -37,64 +37,64 @@ pub fn right_lengths(callsign: usize, locator: usize) -> bool
 }
 
 // Whether a message is legal: its lengths, its characters and its power.
-pub fn check(callsign: &[u8], locator: &[u8], power: u32) -> Checked
+pub fn check(callsign: &[u8], locator: &[u8], power: u32) -> CheckAnswer
     ensures answer { λ r. ⌜ r ≡ checked (now (callsign .entry)) (now (locator .entry)) power ⌝ }
 {
     if !right_lengths(callsign.len(), locator.len()) {
-        return Checked::Refused(Refusal {
+        return CheckAnswer::Refused(Refusal {
             number: WRONG_LENGTH,
             place: 0,
         });
     }
     let bad = character::first_bad_of(callsign, locator);
     if bad < 10 {
-        return Checked::Refused(Refusal {
+        return CheckAnswer::Refused(Refusal {
             number: BAD_CHARACTER,
             place: bad as u32,
         });
     }
     if !power::is_legal(power) {
-        return Checked::Refused(Refusal {
+        return CheckAnswer::Refused(Refusal {
             number: BAD_POWER,
             place: 0,
         });
     }
-    Checked::Legal
+    CheckAnswer::Legal
 }
 
 // The word of a message.
-pub fn pack(callsign: &[u8], locator: &[u8], power: u32) -> Packed
+pub fn pack(callsign: &[u8], locator: &[u8], power: u32) -> WordAnswer
     ensures answer { λ r. ⌜ r ≡ packed (now (callsign .entry)) (now (locator .entry)) power ⌝ }
-    ensures reads_back { λ r. ⌜ ReadsBack r (now (callsign .entry)) (now (locator .entry)) power ⌝ }
+    ensures reads_back { λ r. ⌜ UnpacksBack r (now (callsign .entry)) (now (locator .entry)) power ⌝ }
 {
     let checked = check(callsign, locator, power);
-    if let Checked::Refused(refusal) = checked {
-        return Packed::Refused(refusal);
+    if let CheckAnswer::Refused(refusal) = checked {
+        return WordAnswer::Refused(refusal);
     }
     let n = word::callsign_number(callsign);
     let m1 = word::locator_number(locator);
-    Packed::Word(word::assemble(n, m1, power))
+    WordAnswer::Word(word::assemble(n, m1, power))
 }
 
 // The message of a word: its callsign and locator are written, its power is the answer.
-pub fn unpack(word: u64, callsign: &mut [u8], locator: &mut [u8]) -> Given
+pub fn unpack(word: u64, callsign: &mut [u8], locator: &mut [u8]) -> MessageAnswer
     ensures answer { λ r. ⌜ r ≡ unpacked (now (callsign .entry)) (now (locator .entry)) word ⌝ }
-    ensures callsign_after { λ _. ⌜ now (callsign .exit) ≡ callsignAfter (now (callsign .entry)) (now (locator .entry)) word ⌝ }
-    ensures locator_after { λ _. ⌜ now (locator .exit) ≡ locatorAfter (now (callsign .entry)) (now (locator .entry)) word ⌝ }
+    ensures callsign_after { λ _. ⌜ now (callsign .exit) ≡ callsignAfterUnpack (now (callsign .entry)) (now (locator .entry)) word ⌝ }
+    ensures locator_after { λ _. ⌜ now (locator .exit) ≡ locatorAfterUnpack (now (callsign .entry)) (now (locator .entry)) word ⌝ }
     ensures packs_back { λ r. ⌜ PacksBack r word (now (callsign .exit)) (now (locator .exit)) ⌝ }
-    ensures refuses_exactly { λ r. ⌜ RefusesExactly r word (now (callsign .entry)) (now (locator .entry)) ⌝ }
+    ensures refuses_exactly { λ r. ⌜ UnpackRefusedExactly r word (now (callsign .entry)) (now (locator .entry)) ⌝ }
 {
     if !right_lengths(callsign.len(), locator.len()) {
-        return Given::Refused(Refusal {
+        return MessageAnswer::Refused(Refusal {
             number: WRONG_LENGTH,
             place: 0,
         });
     }
     let answer = word::read_word(word);
-    let Given::Power(power) = answer else {
+    let MessageAnswer::Power(power) = answer else {
         return answer;
     };
     word::write_callsign(word, callsign);
     word::write_locator(word, locator);
-    Given::Power(power)
+    MessageAnswer::Power(power)
 }

@@ -4,8 +4,8 @@ ghost use Prim.Native.Nat.{_≤_, _<_, _^_};
 ghost use lib.ListN.{length};
 ghost use Rattle.message.specs.Character.{firstBad};
 ghost use Rattle.message.specs.Word.{callsignNumber, locatorNumber, lowerNumber, wordFrom, callsignPart, locatorPart, callsignOf, locatorOf};
-ghost use Rattle.message.specs.Answer.{wordAnswer};
-use super::Given;
+ghost use Rattle.message.specs.Answer.{wordMessage};
+use super::MessageAnswer;
 use super::character::read_digits;
 use super::character::write_characters;
 use refusal::BAD_LOCATOR_NUMBER;
@@ -73,29 +73,29 @@ fn locator_part(word: u64) -> u64
 
 // The power of a word that is a message's, or why it isn't. A word of 2^50 or more has a callsign
 // number past the end too, so that one test serves for both.
-pub(crate) fn read_word(word: u64) -> Given
-    ensures { λ r. ⌜ r ≡ wordAnswer word ⌝ }
+pub(crate) fn read_word(word: u64) -> MessageAnswer
+    ensures { λ r. ⌜ r ≡ wordMessage word ⌝ }
 {
     if CALLSIGNS <= callsign_part(word) {
-        return Given::Refused(Refusal {
+        return MessageAnswer::Refused(Refusal {
             number: WORD_TOO_LARGE,
             place: 0,
         });
     }
     if LOCATORS <= locator_part(word) {
-        return Given::Refused(Refusal {
+        return MessageAnswer::Refused(Refusal {
             number: BAD_LOCATOR_NUMBER,
             place: 0,
         });
     }
     let bits = (word % 128) as u32;
     if bits < 64 || !power::is_legal(bits - 64) {
-        return Given::Refused(Refusal {
+        return MessageAnswer::Refused(Refusal {
             number: BAD_POWER_BITS,
             place: 0,
         });
     }
-    Given::Power(bits - 64)
+    MessageAnswer::Power(bits - 64)
 }
 
 // Writes the callsign of a word.

@@ -16,20 +16,20 @@ use Rattle.distance.proofs.NearestLaws.{fewest-below, fewest-reached, fewest-is
 use Rattle.repair.specs.Answer.{answerWith, nearestOf, nearestWithin, searched, repaired, repairNumbers}
 use Rattle.repair.specs.Demand.{Bounds, IsNearest, NoneWithin, Shared, AsDemanded}
 use Rattle.repair.specs.declared.Nearest.{Nearest}
-use Rattle.repair.specs.declared.Repaired.{Repaired}
+use Rattle.repair.specs.declared.RepairAnswer.{RepairAnswer}
 use Rattle.repair.proofs.BoundLaws.{no-bad-bound}
 
 -- ---- Answers that differ
 
-refused-not-word : (f : Refusal) (n : Nearest) → Repaired.Refused f ≡ Repaired.Word n → ⊥
+refused-not-word : (f : Refusal) (n : Nearest) → RepairAnswer.Refused f ≡ RepairAnswer.Word n → ⊥
 refused-not-word f n e = let z : _≡_ {A = ℕ} 0 1 = cc in omega arith
 
-word-same : (m n : Nearest) → Repaired.Word m ≡ Repaired.Word n → m ≡ n
+word-same : (m n : Nearest) → RepairAnswer.Word m ≡ RepairAnswer.Word n → m ≡ n
 unfolding repairNumbers
-word-same m n e = ap (λ (a : Repaired). repairNumbers a .nearest) e
+word-same m n e = ap (λ (a : RepairAnswer). repairNumbers a .nearest) e
 
-pub number-same : (a b : Repaired) → a ≡ b → repairNumbers a .number ≡ repairNumbers b .number
-number-same a b e = ap (λ (a : Repaired). repairNumbers a .number) e
+pub number-same : (a b : RepairAnswer) → a ≡ b → repairNumbers a .number ≡ repairNumbers b .number
+number-same a b e = ap (λ (a : RepairAnswer). repairNumbers a .number) e
 
 module _ (frame : List ℕ) (limit budget : ℕ) where
   abbrev received : List ℕ
@@ -48,30 +48,30 @@ module _ (frame : List ℕ) (limit budget : ℕ) where
 
   module _ (within : live ≤ budget) where
     module _ (near : fewest received ≤ limit) where
-      searched-word : sharing received ≤ 1 → searched frame limit budget ≡ Repaired.Word (nearestOf frame limit)
+      searched-word : sharing received ≤ 1 → searched frame limit budget ≡ RepairAnswer.Word (nearestOf frame limit)
       unfolding searched nearestWithin
       searched-word one = rw (le-ltb budget live within, le-ltb limit (fewest received) near, le-ltb 1 (sharing received) one)
 
-      searched-shared : 1 < sharing received → searched frame limit budget ≡ Repaired.Refused (refusal sharedFewest 0)
+      searched-shared : 1 < sharing received → searched frame limit budget ≡ RepairAnswer.Refused (refusal sharedFewest 0)
       unfolding searched nearestWithin
       searched-shared two = rw (le-ltb budget live within, le-ltb limit (fewest received) near, lt-ltb 1 (sharing received) two)
 
-    searched-none : limit < fewest received → searched frame limit budget ≡ Repaired.Refused (refusal noneWithinLimit 0)
+    searched-none : limit < fewest received → searched frame limit budget ≡ RepairAnswer.Refused (refusal noneWithinLimit 0)
     unfolding searched nearestWithin
     searched-none far = rw (le-ltb budget live within, lt-ltb limit (fewest received) far)
 
-  pub searched-over : budget < live → searched frame limit budget ≡ Repaired.Refused (refusal overBudget 0)
+  pub searched-over : budget < live → searched frame limit budget ≡ RepairAnswer.Refused (refusal overBudget 0)
   unfolding searched
   searched-over over = rw (lt-ltb budget live over)
 
   -- ---- Back from the answer to its case
 
   -- What holds of the answer in each case holds of it.
-  by-case : (P : Repaired → Type 0)
-      → (budget < live → P (Repaired.Refused (refusal overBudget 0)))
-      → (live ≤ budget → limit < fewest received → P (Repaired.Refused (refusal noneWithinLimit 0)))
-      → (live ≤ budget → fewest received ≤ limit → 1 < sharing received → P (Repaired.Refused (refusal sharedFewest 0)))
-      → (live ≤ budget → fewest received ≤ limit → sharing received ≤ 1 → P (Repaired.Word (nearestOf frame limit)))
+  by-case : (P : RepairAnswer → Type 0)
+      → (budget < live → P (RepairAnswer.Refused (refusal overBudget 0)))
+      → (live ≤ budget → limit < fewest received → P (RepairAnswer.Refused (refusal noneWithinLimit 0)))
+      → (live ≤ budget → fewest received ≤ limit → 1 < sharing received → P (RepairAnswer.Refused (refusal sharedFewest 0)))
+      → (live ≤ budget → fewest received ≤ limit → sharing received ≤ 1 → P (RepairAnswer.Word (nearestOf frame limit)))
       → P (searched frame limit budget)
   by-case P over none shared word =
       below-or-not budget live
@@ -85,10 +85,10 @@ module _ (frame : List ℕ) (limit budget : ℕ) where
       (λ one. rw (searched-word within near one) (word within near one))))
 
   -- A search refuses by 16 or more.
-  pub searched-refusal : (f : Refusal) → searched frame limit budget ≡ Repaired.Refused f → 16 ≤ f .number
+  pub searched-refusal : (f : Refusal) → searched frame limit budget ≡ RepairAnswer.Refused f → 16 ≤ f .number
   unfolding repairNumbers
   searched-refusal f =
-      by-case (λ a. a ≡ Repaired.Refused f → 16 ≤ f .number)
+      by-case (λ a. a ≡ RepairAnswer.Refused f → 16 ≤ f .number)
       (λ over e. omega (arith, number-same _ _ e))
       (λ within far e. omega (arith, number-same _ _ e))
       (λ within near two e. omega (arith, number-same _ _ e))
@@ -126,21 +126,21 @@ module _ (frame : List ℕ) (limit budget : ℕ) where
       let few = fewest-only received (n .word) only in
       rw (nearest-only received (n .word) only, few, ← is .its-disagreements, ← is .live-count, ← is .wrong-sync)
 
-  word-of : (n : Nearest) → searched frame limit budget ≡ Repaired.Word n → (live ≤ budget) × IsNearest frame limit n
+  word-of : (n : Nearest) → searched frame limit budget ≡ RepairAnswer.Word n → (live ≤ budget) × IsNearest frame limit n
   word-of n =
-      by-case (λ a. a ≡ Repaired.Word n → (live ≤ budget) × IsNearest frame limit n)
+      by-case (λ a. a ≡ RepairAnswer.Word n → (live ≤ budget) × IsNearest frame limit n)
       (λ over e. absurd (refused-not-word _ n e))
       (λ within far e. absurd (refused-not-word _ n e))
       (λ within near two e. absurd (refused-not-word _ n e))
       (λ within near one e. (within, rw (word-same _ n e) at (nearestOf-is near one)))
 
-  pub of-word : (n : Nearest) → (live ≤ budget) × IsNearest frame limit n → searched frame limit budget ≡ Repaired.Word n
+  pub of-word : (n : Nearest) → (live ≤ budget) × IsNearest frame limit n → searched frame limit budget ≡ RepairAnswer.Word n
   of-word n given =
       let is = given .1 in
       let few = fewest-only received (n .word) (is .only-nearest) in
       let near : fewest received ≤ limit = omega (arith, is .its-disagreements, is .within-limit) in
       let one : sharing received ≤ 1 = omega (arith, sharing-only received (n .word) (is .only-nearest)) in
-      searched-word (given .0) near one ∙ ap Repaired.Word (is-nearestOf n is)
+      searched-word (given .0) near one ∙ ap RepairAnswer.Word (is-nearestOf n is)
 
   -- ---- No word within the limit
 
@@ -153,7 +153,7 @@ module _ (frame : List ℕ) (limit budget : ℕ) where
       (λ within near two e. absurd (omega arith))
       (λ within near one e. absurd (omega arith))
 
-  pub of-none : (live ≤ budget) × NoneWithin received limit → searched frame limit budget ≡ Repaired.Refused (refusal noneWithinLimit 0)
+  pub of-none : (live ≤ budget) × NoneWithin received limit → searched frame limit budget ≡ RepairAnswer.Refused (refusal noneWithinLimit 0)
   of-none given =
       let found = fewest-reached received in
       searched-none (given .0) (omega (arith, given .1 (found .0) (found .1 .0), found .1 .1))
@@ -181,7 +181,7 @@ module _ (frame : List ℕ) (limit budget : ℕ) where
             within-limit = omega (arith, fewest-is received (words .0) (words .1 .1 .1 .0));
           }
 
-  pub of-shared : (live ≤ budget) × Shared received limit → searched frame limit budget ≡ Repaired.Refused (refusal sharedFewest 0)
+  pub of-shared : (live ≤ budget) × Shared received limit → searched frame limit budget ≡ RepairAnswer.Refused (refusal sharedFewest 0)
   of-shared given =
       let words = given .1 in
       searched-shared (given .0) (omega (arith, fewest-is received (words .one) (words .one-fewest), words .within-limit))

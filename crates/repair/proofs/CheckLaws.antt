@@ -15,7 +15,7 @@ use Rattle.frame.specs.Answer.{small, firstLarge}
 use Rattle.frame.proofs.SymbolLaws.{symbols-of-test}
 use Rattle.repair.specs.Answer.{firstBadBound, searched, repaired, repairNumbers}
 use Rattle.repair.specs.Demand.{Bounds, FirstLargeAt, AsChecked}
-use Rattle.repair.specs.declared.Repaired.{Repaired}
+use Rattle.repair.specs.declared.RepairAnswer.{RepairAnswer}
 use Rattle.repair.proofs.AnswerLaws.{number-same, repaired-searched, searched-refusal}
 use Rattle.repair.proofs.BoundLaws.{bad-limit-first, bad-budget-next, no-bad-bound}
 
@@ -40,12 +40,12 @@ module _ (frame : List ℕ) where
 
 -- ---- Refusals that differ
 
-place-same : (f g : Refusal) → Repaired.Refused f ≡ Repaired.Refused g → f .place ≡ g .place
+place-same : (f g : Refusal) → RepairAnswer.Refused f ≡ RepairAnswer.Refused g → f .place ≡ g .place
 unfolding repairNumbers
-place-same f g e = ap (λ (a : Repaired). repairNumbers a .place) e
+place-same f g e = ap (λ (a : RepairAnswer). repairNumbers a .place) e
 
 -- Two refusals are the same only by number and place.
-differs : {Q : Type 0} (f g : Refusal) → ((f .number ≡ g .number) × (f .place ≡ g .place) → ⊥) → Repaired.Refused f ≡ Repaired.Refused g → Q
+differs : {Q : Type 0} (f g : Refusal) → ((f .number ≡ g .number) × (f .place ≡ g .place) → ⊥) → RepairAnswer.Refused f ≡ RepairAnswer.Refused g → Q
 unfolding repairNumbers
 differs f g other e = absurd (other (number-same _ _ e, place-same f g e))
 
@@ -55,32 +55,32 @@ module _ (frame : List ℕ) (limit budget : ℕ) where
   abbrev BadBudget : Type 0
   BadBudget = (limit ≤ 12) × ((budget ≡ 0) ⊎ (65_536 < budget))
 
-  pub repaired-length : (length frame ≡ 162 → ⊥) → repaired frame limit budget ≡ Repaired.Refused (refusal wrongLength 0)
+  pub repaired-length : (length frame ≡ 162 → ⊥) → repaired frame limit budget ≡ RepairAnswer.Refused (refusal wrongLength 0)
   unfolding repaired
   repaired-length other = rw (ne-eqb (length frame) 162 other)
 
   module _ (long : length frame ≡ 162) where
-    pub repaired-bound : firstBadBound limit budget < 2 → repaired frame limit budget ≡ Repaired.Refused (refusal badBound (firstBadBound limit budget))
+    pub repaired-bound : firstBadBound limit budget < 2 → repaired frame limit budget ≡ RepairAnswer.Refused (refusal badBound (firstBadBound limit budget))
     unfolding repaired
     repaired-bound bad = rw (eq-eqb (length frame) 162 long, lt-ltb (firstBadBound limit budget) 2 bad)
 
     pub repaired-large : 2 ≤ firstBadBound limit budget → firstLarge frame < 162
-        → repaired frame limit budget ≡ Repaired.Refused (refusal symbolTooLarge (firstLarge frame))
+        → repaired frame limit budget ≡ RepairAnswer.Refused (refusal symbolTooLarge (firstLarge frame))
     unfolding repaired
     repaired-large good large =
         rw (eq-eqb (length frame) 162 long, le-ltb (firstBadBound limit budget) 2 good, lt-ltb (firstLarge frame) 162 large)
 
   bound-refused : (place : ℕ) → firstBadBound limit budget ≡ place → place < 2 → length frame ≡ 162
-      → repaired frame limit budget ≡ Repaired.Refused (refusal badBound place)
+      → repaired frame limit budget ≡ RepairAnswer.Refused (refusal badBound place)
   bound-refused place e h long =
-      repaired-bound long (omega arith) ∙ ap (λ (p : ℕ). Repaired.Refused (refusal badBound p)) e
+      repaired-bound long (omega arith) ∙ ap (λ (p : ℕ). RepairAnswer.Refused (refusal badBound p)) e
 
   -- What holds of the answer in each case holds of it.
-  by-check : (P : Repaired → Type 0)
-      → ((length frame ≡ 162 → ⊥) → P (Repaired.Refused (refusal wrongLength 0)))
-      → (length frame ≡ 162 → 12 < limit → P (Repaired.Refused (refusal badBound 0)))
-      → (length frame ≡ 162 → BadBudget → P (Repaired.Refused (refusal badBound 1)))
-      → (length frame ≡ 162 → Bounds limit budget → FirstLargeAt frame (firstLarge frame) → P (Repaired.Refused (refusal symbolTooLarge (firstLarge frame))))
+  by-check : (P : RepairAnswer → Type 0)
+      → ((length frame ≡ 162 → ⊥) → P (RepairAnswer.Refused (refusal wrongLength 0)))
+      → (length frame ≡ 162 → 12 < limit → P (RepairAnswer.Refused (refusal badBound 0)))
+      → (length frame ≡ 162 → BadBudget → P (RepairAnswer.Refused (refusal badBound 1)))
+      → (length frame ≡ 162 → Bounds limit budget → FirstLargeAt frame (firstLarge frame) → P (RepairAnswer.Refused (refusal symbolTooLarge (firstLarge frame))))
       → (RightSymbols frame → Bounds limit budget → P (searched frame limit budget))
       → P (repaired frame limit budget)
   by-check P short limit-bad budget-bad large right =
@@ -94,7 +94,7 @@ module _ (frame : List ℕ) (limit budget : ℕ) where
       (λ some. below-or-not 65_536 budget (λ more. bad-budget long (limit-good, inr more)) (λ budget-good. checked-bounds long (bounded limit-good some budget-good)))))
       (λ other. rw (repaired-length other) (short other))
     where
-      at-bound : length frame ≡ 162 → (place : ℕ) → firstBadBound limit budget ≡ place → place < 2 → P (Repaired.Refused (refusal badBound place))
+      at-bound : length frame ≡ 162 → (place : ℕ) → firstBadBound limit budget ≡ place → place < 2 → P (RepairAnswer.Refused (refusal badBound place))
           → P (repaired frame limit budget)
       at-bound long place e h p = rw (bound-refused place e h long) p
 
@@ -116,40 +116,40 @@ module _ (frame : List ℕ) (limit budget : ℕ) where
 
   -- ---- Each exactly when it applies
 
-  not-searched : {Q : Type 0} (f : Refusal) → f .number < 16 → searched frame limit budget ≡ Repaired.Refused f → Q
+  not-searched : {Q : Type 0} (f : Refusal) → f .number < 16 → searched frame limit budget ≡ RepairAnswer.Refused f → Q
   not-searched f h e = absurd (omega (arith, searched-refusal frame limit budget f e))
 
-  length-told : repaired frame limit budget ≡ Repaired.Refused (refusal wrongLength 0) → length frame ≡ 162 → ⊥
+  length-told : repaired frame limit budget ≡ RepairAnswer.Refused (refusal wrongLength 0) → length frame ≡ 162 → ⊥
   length-told =
-      by-check (λ a. a ≡ Repaired.Refused (refusal wrongLength 0) → length frame ≡ 162 → ⊥)
+      by-check (λ a. a ≡ RepairAnswer.Refused (refusal wrongLength 0) → length frame ≡ 162 → ⊥)
       (λ other e. other)
       (λ long more. differs _ _ (λ same. omega (arith, same .0)))
       (λ long bad. differs _ _ (λ same. omega (arith, same .0)))
       (λ long bounds first. differs _ _ (λ same. omega (arith, same .0)))
       (λ right bounds. not-searched _ (omega arith))
 
-  limit-told : repaired frame limit budget ≡ Repaired.Refused (refusal badBound 0) → (length frame ≡ 162) × (12 < limit)
+  limit-told : repaired frame limit budget ≡ RepairAnswer.Refused (refusal badBound 0) → (length frame ≡ 162) × (12 < limit)
   limit-told =
-      by-check (λ a. a ≡ Repaired.Refused (refusal badBound 0) → (length frame ≡ 162) × (12 < limit))
+      by-check (λ a. a ≡ RepairAnswer.Refused (refusal badBound 0) → (length frame ≡ 162) × (12 < limit))
       (λ other. differs _ _ (λ same. omega (arith, same .0)))
       (λ long more e. (long, more))
       (λ long bad. differs _ _ (λ same. omega (arith, same .1)))
       (λ long bounds first. differs _ _ (λ same. omega (arith, same .0)))
       (λ right bounds. not-searched _ (omega arith))
 
-  budget-told : repaired frame limit budget ≡ Repaired.Refused (refusal badBound 1) → (length frame ≡ 162) × BadBudget
+  budget-told : repaired frame limit budget ≡ RepairAnswer.Refused (refusal badBound 1) → (length frame ≡ 162) × BadBudget
   budget-told =
-      by-check (λ a. a ≡ Repaired.Refused (refusal badBound 1) → (length frame ≡ 162) × BadBudget)
+      by-check (λ a. a ≡ RepairAnswer.Refused (refusal badBound 1) → (length frame ≡ 162) × BadBudget)
       (λ other. differs _ _ (λ same. omega (arith, same .0)))
       (λ long more. differs _ _ (λ same. omega (arith, same .1)))
       (λ long bad e. (long, bad))
       (λ long bounds first. differs _ _ (λ same. omega (arith, same .0)))
       (λ right bounds. not-searched _ (omega arith))
 
-  symbol-told : (place : ℕ) → repaired frame limit budget ≡ Repaired.Refused (refusal symbolTooLarge place)
+  symbol-told : (place : ℕ) → repaired frame limit budget ≡ RepairAnswer.Refused (refusal symbolTooLarge place)
       → (length frame ≡ 162) × (Bounds limit budget × FirstLargeAt frame place)
   symbol-told place =
-      by-check (λ a. a ≡ Repaired.Refused (refusal symbolTooLarge place) → (length frame ≡ 162) × (Bounds limit budget × FirstLargeAt frame place))
+      by-check (λ a. a ≡ RepairAnswer.Refused (refusal symbolTooLarge place) → (length frame ≡ 162) × (Bounds limit budget × FirstLargeAt frame place))
       (λ other. differs _ _ (λ same. omega (arith, same .0)))
       (λ long more. differs _ _ (λ same. omega (arith, same .0)))
       (λ long bad. differs _ _ (λ same. omega (arith, same .0)))
@@ -157,20 +157,20 @@ module _ (frame : List ℕ) (limit budget : ℕ) where
       (λ right bounds. not-searched _ (omega arith))
 
   symbol-refused : (place : ℕ) → (length frame ≡ 162) × (Bounds limit budget × FirstLargeAt frame place)
-      → repaired frame limit budget ≡ Repaired.Refused (refusal symbolTooLarge place)
+      → repaired frame limit budget ≡ RepairAnswer.Refused (refusal symbolTooLarge place)
   symbol-refused place (long, (bounds, first)) =
       below-or-not (firstLarge frame) 162
       (λ large.
       let same = only-first frame (firstLarge frame) place (first-large frame (rw long large)) first in
       repaired-large long (omega (arith, no-bad-bound limit budget bounds)) large
-      ∙ ap (λ (p : ℕ). Repaired.Refused (refusal symbolTooLarge p)) same)
+      ∙ ap (λ (p : ℕ). RepairAnswer.Refused (refusal symbolTooLarge p)) same)
       (λ none. absurd (omega (arith, symbols-of-test frame long none .symbols-to-3 place (omega (arith, first .within)), first .large)))
 
   -- A refusal's number is above 0.
-  pub refusal-number : (f : Refusal) → repaired frame limit budget ≡ Repaired.Refused f → 0 < f .number
+  pub refusal-number : (f : Refusal) → repaired frame limit budget ≡ RepairAnswer.Refused f → 0 < f .number
   unfolding repairNumbers
   refusal-number f =
-      by-check (λ a. a ≡ Repaired.Refused f → 0 < f .number)
+      by-check (λ a. a ≡ RepairAnswer.Refused f → 0 < f .number)
       (λ other e. omega (arith, number-same _ _ e))
       (λ long more e. omega (arith, number-same _ _ e))
       (λ long bad e. omega (arith, number-same _ _ e))

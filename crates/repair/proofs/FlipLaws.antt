@@ -9,8 +9,8 @@ use lib.ListN.{getD}
 use Rattle.basics.proofs.BelowLaws.{count-same, count-reordered}
 use Rattle.convolution.specs.Code.{codedBits}
 use Rattle.convolution.proofs.CodeLaws.{length-codedBits}
-use Rattle.interleaver.specs.Places.{placeOf, orderOf}
-use Rattle.interleaver.proofs.PlaceLaws.{placeOf-below, orderOf-below, orderOf-placeOf, placeOf-orderOf}
+use Rattle.interleaver.specs.Places.{placeOf, indexAt}
+use Rattle.interleaver.proofs.PlaceLaws.{placeOf-below, indexAt-below, indexAt-placeOf, placeOf-indexAt}
 use Rattle.frame.specs.Symbols.{frameOf, RightSymbols, dataAt, receivedBits}
 use Rattle.frame.proofs.SymbolLaws.{length-receivedBits, getD-receivedBits, received-frameOf}
 use Rattle.distance.specs.Prefixes.{wordDisagreements, liveCount}
@@ -20,7 +20,7 @@ use Rattle.distance.proofs.PrefixLaws.{word-disagreements}
 use Rattle.distance.proofs.ZeroWord.{flipped-most, others-further}
 use Rattle.repair.specs.Answer.{answerWith, repaired}
 use Rattle.repair.specs.Demand.{Bounds, IsNearest, flippedAt, flips, givenBack, TwoFlipsRepaired}
-use Rattle.repair.specs.declared.Repaired.{Repaired}
+use Rattle.repair.specs.declared.RepairAnswer.{RepairAnswer}
 use Rattle.repair.proofs.AnswerLaws.{demanded}
 
 module _ (word : ℕ) (frame : List ℕ) where
@@ -43,7 +43,7 @@ module _ (word : ℕ) (frame : List ℕ) where
       ∙ differences-counted 162 received (codedBits word) (length-receivedBits frame) (length-codedBits word)
       ∙ count-same 162 (λ i. not (eqb (getD received i 0) (getD (codedBits word) i 0))) (λ i. flippedAt word frame (placeOf i))
       (λ i h. ap₂ (λ (a b : ℕ). not (eqb a b)) (received-there i h) (sent-there i h))
-      ∙ count-reordered 162 placeOf orderOf placeOf-below orderOf-placeOf orderOf-below placeOf-orderOf (flippedAt word frame))
+      ∙ count-reordered 162 placeOf indexAt placeOf-below indexAt-placeOf indexAt-below placeOf-indexAt (flippedAt word frame))
 
   -- ---- Two flips at most
 
@@ -62,7 +62,7 @@ module _ (word : ℕ) (frame : List ℕ) where
 
     -- A budget from 569 on is enough.
     sent-repaired : (budget : ℕ) → 569 ≤ budget → budget ≤ 65_536 → RightSymbols frame
-        → repaired frame 2 budget ≡ Repaired.Word (givenBack word frame 2)
+        → repaired frame 2 budget ≡ RepairAnswer.Word (givenBack word frame 2)
     sent-repaired budget enough most right =
         let bounds : Bounds 2 budget = record { limit-to-12 = omega arith; budget-from-1 = omega arith; budget-to-65536 = most } in
         demanded frame 2 budget right bounds .answered (givenBack word frame 2) .1 (omega (arith, live-most), given-back-is)

@@ -17,7 +17,7 @@ use Rattle.repair.specs.Demand.{IsNearest, Shared}
 use Rattle.repair.specs.Search.{BestBelow, Received, SearchFound, nearestIn, answerOf}
 use Rattle.repair.specs.declared.best.Best.{Best}
 use Rattle.repair.specs.declared.search.Found.{Found}
-use Rattle.repair.specs.declared.Repaired.{Repaired}
+use Rattle.repair.specs.declared.RepairAnswer.{RepairAnswer}
 use Rattle.repair.proofs.AnswerLaws.{searched-over, of-word, of-none, of-shared}
 
 -- The data bits of symbols of 0 to 3 are bits.
@@ -36,22 +36,22 @@ module _ (found : Found) (wrong limit budget : ℕ) where
   abbrev best : Best
   best = found .best
 
-  pub answer-over : budget < found .live → answerOf found wrong limit budget ≡ Repaired.Refused (refusal overBudget 0)
+  pub answer-over : budget < found .live → answerOf found wrong limit budget ≡ RepairAnswer.Refused (refusal overBudget 0)
   unfolding answerOf
   answer-over over = rw (lt-ltb budget (found .live) over)
 
   module _ (within : found .live ≤ budget) where
-    pub answer-none : limit < best .fewest → answerOf found wrong limit budget ≡ Repaired.Refused (refusal noneWithinLimit 0)
+    pub answer-none : limit < best .fewest → answerOf found wrong limit budget ≡ RepairAnswer.Refused (refusal noneWithinLimit 0)
     unfolding answerOf
     answer-none far = rw (le-ltb budget (found .live) within, lt-ltb limit (best .fewest) far)
 
     module _ (near : best .fewest ≤ limit) where
-      pub answer-shared : best .next ≤ best .fewest → answerOf found wrong limit budget ≡ Repaired.Refused (refusal sharedFewest 0)
+      pub answer-shared : best .next ≤ best .fewest → answerOf found wrong limit budget ≡ RepairAnswer.Refused (refusal sharedFewest 0)
       unfolding answerOf
       answer-shared shared =
           rw (le-ltb budget (found .live) within, le-ltb limit (best .fewest) near, le-leb (best .next) (best .fewest) shared)
 
-      pub answer-word : best .fewest < best .next → answerOf found wrong limit budget ≡ Repaired.Word (nearestIn found wrong)
+      pub answer-word : best .fewest < best .next → answerOf found wrong limit budget ≡ RepairAnswer.Word (nearestIn found wrong)
       unfolding answerOf
       answer-word alone =
           rw (le-ltb budget (found .live) within, le-ltb limit (best .fewest) near, lt-leb (best .next) (best .fewest) alone)

@@ -12,7 +12,7 @@ use Rattle.frame.specs.Answer.{firstLarge}
 use Rattle.distance.specs.Prefixes.{liveCount}
 use Rattle.distance.specs.Nearest.{fewest, sharing, nearest}
 use Rattle.repair.specs.declared.Nearest.{Nearest}
-use Rattle.repair.specs.declared.Repaired.{Repaired}
+use Rattle.repair.specs.declared.RepairAnswer.{RepairAnswer}
 
 -- "limit above 12, or budget 0 or above 65,536": place 0 or 1, and 2 where neither is so.
 unfoldable pub firstBadBound : ℕ → ℕ → ℕ
@@ -35,25 +35,25 @@ nearestOf frame limit = answerWith frame limit (nearest (receivedBits frame)) (f
 
 -- The one word with the fewest disagreements where these are at most the limit, or why there is none. If the fewest lie above the limit,
 -- 17 is given, shared or not.
-unfoldable pub nearestWithin : List ℕ → ℕ → Repaired
+unfoldable pub nearestWithin : List ℕ → ℕ → RepairAnswer
 nearestWithin frame limit =
     let received = receivedBits frame in
-    cond (ltb limit (fewest received)) (Repaired.Refused (refusal noneWithinLimit 0))
-    (cond (ltb 1 (sharing received)) (Repaired.Refused (refusal sharedFewest 0))
-    (Repaired.Word (nearestOf frame limit)))
+    cond (ltb limit (fewest received)) (RepairAnswer.Refused (refusal noneWithinLimit 0))
+    (cond (ltb 1 (sharing received)) (RepairAnswer.Refused (refusal sharedFewest 0))
+    (RepairAnswer.Word (nearestOf frame limit)))
 
 -- Of 162 symbols of 0 to 3, and a limit and a budget within their bounds: "All four equal their definitions here, from the symbols and
 -- the limit alone, whatever the search went through."
-unfoldable pub searched : List ℕ → ℕ → ℕ → Repaired
+unfoldable pub searched : List ℕ → ℕ → ℕ → RepairAnswer
 searched frame limit budget =
-    cond (ltb budget (liveCount (receivedBits frame) limit)) (Repaired.Refused (refusal overBudget 0)) (nearestWithin frame limit)
+    cond (ltb budget (liveCount (receivedBits frame) limit)) (RepairAnswer.Refused (refusal overBudget 0)) (nearestWithin frame limit)
 
 -- "repair 1, 15, 7, 16, 17, 18"
-unfoldable pub repaired : List ℕ → ℕ → ℕ → Repaired
+unfoldable pub repaired : List ℕ → ℕ → ℕ → RepairAnswer
 repaired frame limit budget =
-    cond (not (eqb (length frame) 162)) (Repaired.Refused (refusal wrongLength 0))
-    (cond (ltb (firstBadBound limit budget) 2) (Repaired.Refused (refusal badBound (firstBadBound limit budget)))
-    (cond (ltb (firstLarge frame) 162) (Repaired.Refused (refusal symbolTooLarge (firstLarge frame)))
+    cond (not (eqb (length frame) 162)) (RepairAnswer.Refused (refusal wrongLength 0))
+    (cond (ltb (firstBadBound limit budget) 2) (RepairAnswer.Refused (refusal badBound (firstBadBound limit budget)))
+    (cond (ltb (firstLarge frame) 162) (RepairAnswer.Refused (refusal symbolTooLarge (firstLarge frame)))
     (searched frame limit budget)))
 
 -- ---- The result numbers of an answer: 0 where it has none
@@ -67,6 +67,6 @@ pub record RepairNumbers : Type 0 where
 unfoldable pub noNearest : Nearest
 noNearest = record { word = 0; disagreements = 0; live = 0; «sync_wrong» = 0 }
 
-unfoldable pub repairNumbers : Repaired → RepairNumbers
-repairNumbers (Repaired.Word n) = record { number = 0; place = 0; nearest = n }
-repairNumbers (Repaired.Refused f) = record { number = f .number; place = f .place; nearest = noNearest }
+unfoldable pub repairNumbers : RepairAnswer → RepairNumbers
+repairNumbers (RepairAnswer.Word n) = record { number = 0; place = 0; nearest = n }
+repairNumbers (RepairAnswer.Refused f) = record { number = f .number; place = f .place; nearest = noNearest }

@@ -14,7 +14,7 @@ use Rattle.distance.specs.Prefixes.{wordDisagreements, liveCount}
 use Rattle.distance.specs.Nearest.{AtMostAll, OnlyNearest}
 use Rattle.repair.specs.Answer.{answerWith}
 use Rattle.repair.specs.declared.Nearest.{Nearest}
-use Rattle.repair.specs.declared.Repaired.{Repaired}
+use Rattle.repair.specs.declared.RepairAnswer.{RepairAnswer}
 
 -- "a limit of 0 to 12 wrong data bits and a budget of 1 to 65,536"
 pub record Bounds (limit budget : ℕ) : Type 0 where
@@ -31,15 +31,15 @@ pub record FirstLargeAt (frame : List ℕ) (place : ℕ) : Type 0 where
   pub none-before : (earlier : ℕ) → earlier < place → getD frame earlier 0 ≤ 3
 
 -- 01's table for 1, 15 and 7, in that order: each is given exactly when it applies and none before it does.
-pub record AsChecked (frame : List ℕ) (limit budget : ℕ) (answer : Repaired) : Type 0 where
+pub record AsChecked (frame : List ℕ) (limit budget : ℕ) (answer : RepairAnswer) : Type 0 where
   -- "a lent buffer hasn't its exact length (.. frame 162)"
-  pub wrong-length : (answer ≡ Repaired.Refused (refusal wrongLength 0)) ↔ (length frame ≡ 162 → ⊥)
+  pub wrong-length : (answer ≡ RepairAnswer.Refused (refusal wrongLength 0)) ↔ (length frame ≡ 162 → ⊥)
   -- "limit above 12, or budget 0 or above 65,536", place 0 or 1
-  pub bad-limit : (answer ≡ Repaired.Refused (refusal badBound 0)) ↔ ((length frame ≡ 162) × (12 < limit))
-  pub bad-budget : (answer ≡ Repaired.Refused (refusal badBound 1))
+  pub bad-limit : (answer ≡ RepairAnswer.Refused (refusal badBound 0)) ↔ ((length frame ≡ 162) × (12 < limit))
+  pub bad-budget : (answer ≡ RepairAnswer.Refused (refusal badBound 1))
       ↔ ((length frame ≡ 162) × ((limit ≤ 12) × ((budget ≡ 0) ⊎ (65_536 < budget))))
   -- "a symbol is above 3": the first such
-  pub large-symbol : (place : ℕ) → (answer ≡ Repaired.Refused (refusal symbolTooLarge place))
+  pub large-symbol : (place : ℕ) → (answer ≡ RepairAnswer.Refused (refusal symbolTooLarge place))
       ↔ ((length frame ≡ 162) × (Bounds limit budget × FirstLargeAt frame place))
 
 -- ---- What is answered
@@ -66,21 +66,21 @@ pub record Shared (received : List ℕ) (limit : ℕ) : Type 0 where
   pub within-limit : wordDisagreements received one ≤ limit
 
 -- Demand 3: when the answer is "out of budget", when it is a word and which, and else why there is none.
-pub record Demanded (frame : List ℕ) (limit budget : ℕ) (answer : Repaired) : Type 0 where
+pub record Demanded (frame : List ℕ) (limit budget : ℕ) (answer : RepairAnswer) : Type 0 where
   -- "it says "out of budget" exactly when the live count .. is above the budget"
-  pub out-of-budget : (answer ≡ Repaired.Refused (refusal overBudget 0)) ↔ (budget < liveCount (receivedBits frame) limit)
+  pub out-of-budget : (answer ≡ RepairAnswer.Refused (refusal overBudget 0)) ↔ (budget < liveCount (receivedBits frame) limit)
   -- "Otherwise it answers exactly when one single 50-bit word has the fewest disagreements with those symbols, and these are at most the
   -- limit."
   pub answered : (nearest : Nearest)
-      → (answer ≡ Repaired.Word nearest) ↔ ((liveCount (receivedBits frame) limit ≤ budget) × IsNearest frame limit nearest)
+      → (answer ≡ RepairAnswer.Word nearest) ↔ ((liveCount (receivedBits frame) limit ≤ budget) × IsNearest frame limit nearest)
   -- Where there is no such word, 01's table says why.
-  pub none-within : (answer ≡ Repaired.Refused (refusal noneWithinLimit 0))
+  pub none-within : (answer ≡ RepairAnswer.Refused (refusal noneWithinLimit 0))
       ↔ ((liveCount (receivedBits frame) limit ≤ budget) × NoneWithin (receivedBits frame) limit)
-  pub shared : (answer ≡ Repaired.Refused (refusal sharedFewest 0))
+  pub shared : (answer ≡ RepairAnswer.Refused (refusal sharedFewest 0))
       ↔ ((liveCount (receivedBits frame) limit ≤ budget) × Shared (receivedBits frame) limit)
 
 -- "Repair takes any 162 symbols of 0 to 3, a limit .. and a budget .. Whichever these are, ..": what is demanded of its answer.
-abbrev pub AsDemanded : List ℕ → ℕ → ℕ → Repaired → Type 0
+abbrev pub AsDemanded : List ℕ → ℕ → ℕ → RepairAnswer → Type 0
 AsDemanded frame limit budget answer = RightSymbols frame → Bounds limit budget → Demanded frame limit budget answer
 
 -- ---- Flipped data bits
@@ -99,7 +99,7 @@ givenBack word frame limit = answerWith frame limit word (flips word frame)
 
 -- "Whichever 50-bit word was sent, whichever of its frame's 162 data bits were flipped, two at most, and whatever became of the sync
 -- bits, limit 2 with a budget of 16,000 gives that word back, with the number of flipped bits as its disagreements."
-abbrev pub TwoFlipsRepaired : List ℕ → ℕ → ℕ → Repaired → Type 0
+abbrev pub TwoFlipsRepaired : List ℕ → ℕ → ℕ → RepairAnswer → Type 0
 TwoFlipsRepaired frame limit budget answer =
     limit ≡ 2 → budget ≡ 16_000 → RightSymbols frame → (word : ℕ) → word < 2 ^ 50 → flips word frame ≤ 2
-    → answer ≡ Repaired.Word (givenBack word frame 2)
+    → answer ≡ RepairAnswer.Word (givenBack word frame 2)

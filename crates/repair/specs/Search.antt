@@ -10,7 +10,7 @@ use Rattle.distance.specs.Prefixes.{wordDisagreements, liveCount}
 use Rattle.repair.specs.declared.best.Best.{Best}
 use Rattle.repair.specs.declared.search.Found.{Found}
 use Rattle.repair.specs.declared.Nearest.{Nearest}
-use Rattle.repair.specs.declared.Repaired.{Repaired}
+use Rattle.repair.specs.declared.RepairAnswer.{RepairAnswer}
 
 -- ---- The nearest word so far
 
@@ -53,10 +53,10 @@ unfoldable pub nearestIn : Found → ℕ → Nearest
 nearestIn found wrong =
     record { word = found .best .word; disagreements = found .best .fewest; live = found .live; «sync_wrong» = wrong }
 
-unfoldable pub answerOf : Found → ℕ → ℕ → ℕ → Repaired
+unfoldable pub answerOf : Found → ℕ → ℕ → ℕ → RepairAnswer
 answerOf found wrong limit budget =
     let best = found .best in
-    cond (ltb budget (found .live)) (Repaired.Refused (refusal overBudget 0))
-    (cond (ltb limit (best .fewest)) (Repaired.Refused (refusal noneWithinLimit 0))
-    (cond (leb (best .next) (best .fewest)) (Repaired.Refused (refusal sharedFewest 0))
-    (Repaired.Word (nearestIn found wrong))))
+    cond (ltb budget (found .live)) (RepairAnswer.Refused (refusal overBudget 0))
+    (cond (ltb limit (best .fewest)) (RepairAnswer.Refused (refusal noneWithinLimit 0))
+    (cond (leb (best .next) (best .fewest)) (RepairAnswer.Refused (refusal sharedFewest 0))
+    (RepairAnswer.Word (nearestIn found wrong))))

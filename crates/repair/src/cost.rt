@@ -7,7 +7,7 @@ ghost use Rattle.distance.specs.Steps.{stepCost, zeroCost, branchCost};
 use super::prefix;
 
 // 1 where two bits differ.
-fn unlike(x: u8, y: u8) -> u32
+fn difference(x: u8, y: u8) -> u32
     ensures { λ r. ⌜ r ≡ unlike x y ⌝ }
 {
     if x == y { 0 } else { 1 }
@@ -19,8 +19,8 @@ fn step_cost(received: &[u8; 162], depth: usize, register: u32) -> u32
     requires { ⌜ depth < 81 ⌝ }
     ensures { λ r. ⌜ r ≡ stepCost (drop (2 * depth) (now (received .entry))) register ⌝ }
 {
-    unlike(convolution::first_coded(register), received[2 * depth])
-        + unlike(convolution::second_coded(register), received[2 * depth + 1])
+    difference(convolution::first_coded(register), received[2 * depth])
+        + difference(convolution::second_coded(register), received[2 * depth + 1])
 }
 
 // What a 0 after a prefix adds to its disagreements.

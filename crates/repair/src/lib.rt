@@ -27,7 +27,7 @@ pub struct Nearest {
 }
 
 // The answer of a repair.
-pub enum Repaired {
+pub enum RepairAnswer {
     Word(Nearest),
     Refused(Refusal),
 }
@@ -46,29 +46,29 @@ fn first_bad_bound(limit: u32, budget: u32) -> u32
 }
 
 // The answer that a search gives.
-fn answer(found: Found, sync_wrong: u32, limit: u32, budget: u32) -> Repaired
+fn answer(found: Found, sync_wrong: u32, limit: u32, budget: u32) -> RepairAnswer
     ensures { λ r. ⌜ r ≡ answerOf found «sync_wrong» limit budget ⌝ }
 {
     if budget < found.live {
-        return Repaired::Refused(Refusal {
+        return RepairAnswer::Refused(Refusal {
             number: OVER_BUDGET,
             place: 0,
         });
     }
     let best = found.best;
     if limit < best.fewest {
-        return Repaired::Refused(Refusal {
+        return RepairAnswer::Refused(Refusal {
             number: NONE_WITHIN_LIMIT,
             place: 0,
         });
     }
     if best.next <= best.fewest {
-        return Repaired::Refused(Refusal {
+        return RepairAnswer::Refused(Refusal {
             number: SHARED_FEWEST,
             place: 0,
         });
     }
-    Repaired::Word(Nearest {
+    RepairAnswer::Word(Nearest {
         word: best.word,
         disagreements: best.fewest,
         live: found.live,
@@ -78,28 +78,28 @@ fn answer(found: Found, sync_wrong: u32, limit: u32, budget: u32) -> Repaired
 
 // The one word that is nearest to the symbols of a frame, if it is within the limit and the live count
 // within the budget; else why not.
-pub fn repair(frame: &[u8], limit: u32, budget: u32) -> Repaired
+pub fn repair(frame: &[u8], limit: u32, budget: u32) -> RepairAnswer
     ensures answer { λ r. ⌜ r ≡ repaired (now (frame .entry)) limit budget ⌝ }
     ensures checked { λ r. ⌜ AsChecked (now (frame .entry)) limit budget r ⌝ }
     ensures demanded { λ r. ⌜ AsDemanded (now (frame .entry)) limit budget r ⌝ }
     ensures two_flips { λ r. ⌜ TwoFlipsRepaired (now (frame .entry)) limit budget r ⌝ }
 {
     if frame.len() != 162 {
-        return Repaired::Refused(Refusal {
+        return RepairAnswer::Refused(Refusal {
             number: WRONG_LENGTH,
             place: 0,
         });
     }
     let bad = first_bad_bound(limit, budget);
     if bad < 2 {
-        return Repaired::Refused(Refusal {
+        return RepairAnswer::Refused(Refusal {
             number: BAD_BOUND,
             place: bad,
         });
     }
     let large = frame::symbols::first_large(frame);
     if large < 162 {
-        return Repaired::Refused(Refusal {
+        return RepairAnswer::Refused(Refusal {
             number: SYMBOL_TOO_LARGE,
             place: large as u32,
         });

@@ -8,7 +8,7 @@ use mathlib.Core.Bool.{true}
 use Rattle.radix.specs.Numeral.{Digits, Positive, count, numberFrom, numberOf, digitsOf}
 use Rattle.radix.proofs.Laws.{number-below, digits-in-range, digitsOf-numberOf, numberOf-digitsOf}
 use Rattle.u4b.specs.Channel.{isFirstCharacter, isThirdCharacter}
-use Rattle.telemetry.specs.Numbers.{positionRadices, positionDigits, positionNumber, sensorRadices, sensorDigits, sensorNumber, readingFrom, readingOf}
+use Rattle.telemetry.specs.Payload.{positionRadices, positionDigits, positionNumber, sensorRadices, sensorDigits, sensorNumber, readingFrom, readingOf}
 use Rattle.telemetry.specs.RoundTrip.{quantised, inTenths}
 use Rattle.telemetry.specs.declared.Measured.{Measured}
 use Rattle.telemetry.proofs.RangeLaws.{InRange}

@@ -2,6 +2,6 @@
 -- two promise of each other. How the numbers stand in a message is u4b's.
 pub mod Ranges
 pub mod Codes
-pub mod Numbers
+pub mod Payload
 pub mod Answer
 pub mod RoundTrip

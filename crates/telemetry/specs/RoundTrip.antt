@@ -5,12 +5,12 @@ use mathlib.Core.Path.{_≡_}
 use mathlib.Core.Logic.{_↔_}
 use mathlib.Core.List.{List}
 use lib.IntN.{pos, _*ℤ_}
-use Rattle.message.specs.declared.Given.{Given}
+use Rattle.message.specs.declared.MessageAnswer.{MessageAnswer}
 use Rattle.telemetry.specs.Codes.{altitudeCode, temperatureCode, voltageCode, speedCode, metres, degrees, millivolts, knots}
-use Rattle.telemetry.specs.Answer.{measuredAnswer, callsignFrom, locatorFrom, decoded}
+use Rattle.telemetry.specs.Answer.{measuredMessage, measuredCallsign, measuredLocator, telemetryRead}
 use Rattle.telemetry.specs.declared.Measured.{Measured}
 use Rattle.telemetry.specs.declared.Reading.{Reading}
-use Rattle.telemetry.specs.declared.Decoded.{Decoded}
+use Rattle.telemetry.specs.declared.TelemetryAnswer.{TelemetryAnswer}
 
 -- What is read back of what was measured: each reading back of its code.
 unfoldable pub quantised : Measured → Reading
@@ -41,31 +41,31 @@ inTenths r = record {
 }
 
 -- This message is written from what was measured.
-pub record WritesAs (m : Measured) (callsign locator : List ℕ) (power : ℕ) : Type 0 where
-  pub its-power : measuredAnswer m ≡ Given.Power power
-  pub its-callsign : callsignFrom m ≡ callsign
-  pub its-locator : locatorFrom m ≡ locator
+pub record MeasuredWritesAs (m : Measured) (callsign locator : List ℕ) (power : ℕ) : Type 0 where
+  pub its-power : measuredMessage m ≡ MessageAnswer.Power power
+  pub its-callsign : measuredCallsign m ≡ callsign
+  pub its-locator : measuredLocator m ≡ locator
 
 -- What was written reads back, quantised: the callsign and locator with the answer's power, where it has one.
-abbrev pub ReadsBack : Given → Measured → List ℕ → List ℕ → Type 0
-ReadsBack (Given.Power p) m callsign locator = decoded callsign locator p ≡ Decoded.Telemetry (quantised m)
-ReadsBack (Given.Refused f) m callsign locator = Unit
+abbrev pub TelemetryReadsBack : MessageAnswer → Measured → List ℕ → List ℕ → Type 0
+TelemetryReadsBack (MessageAnswer.Power p) m callsign locator = telemetryRead callsign locator p ≡ TelemetryAnswer.Telemetry (quantised m)
+TelemetryReadsBack (MessageAnswer.Refused f) m callsign locator = Unit
 
 -- What was read writes back: the answer's readings, where it has them, write the same message.
-abbrev pub WritesBack : Decoded → List ℕ → List ℕ → ℕ → Type 0
-WritesBack (Decoded.Telemetry r) callsign locator power = WritesAs (inTenths r) callsign locator power
-WritesBack (Decoded.Refused f) callsign locator power = Unit
+abbrev pub TelemetryWritesBack : TelemetryAnswer → List ℕ → List ℕ → ℕ → Type 0
+TelemetryWritesBack (TelemetryAnswer.Telemetry r) callsign locator power = MeasuredWritesAs (inTenths r) callsign locator power
+TelemetryWritesBack (TelemetryAnswer.Refused f) callsign locator power = Unit
 
 -- The answer is a refusal.
-abbrev pub IsRefused : Decoded → Type 0
-IsRefused (Decoded.Telemetry r) = ⊥
-IsRefused (Decoded.Refused f) = Unit
+abbrev pub TelemetryRefused : TelemetryAnswer → Type 0
+TelemetryRefused (TelemetryAnswer.Telemetry r) = ⊥
+TelemetryRefused (TelemetryAnswer.Refused f) = Unit
 
 -- Nothing that is measured writes this message. Numbers that don't fit the types of the fields are out of range, so that nothing is added
 -- by naming them here.
-abbrev pub NeverWritten : List ℕ → List ℕ → ℕ → Type 0
-NeverWritten callsign locator power = (m : Measured) → WritesAs m callsign locator power → ⊥
+abbrev pub NeverFromMeasured : List ℕ → List ℕ → ℕ → Type 0
+NeverFromMeasured callsign locator power = (m : Measured) → MeasuredWritesAs m callsign locator power → ⊥
 
 -- The answer is a refusal exactly where nothing that is measured writes the message.
-abbrev pub RefusesExactly : Decoded → List ℕ → List ℕ → ℕ → Type 0
-RefusesExactly answer callsign locator power = IsRefused answer ↔ NeverWritten callsign locator power
+abbrev pub TelemetryRefusedExactly : TelemetryAnswer → List ℕ → List ℕ → ℕ → Type 0
+TelemetryRefusedExactly answer callsign locator power = TelemetryRefused answer ↔ NeverFromMeasured callsign locator power

@@ -4,16 +4,16 @@ ghost use mathlib.Core.Bool.{true};
 ghost use Prim.Native.Nat.{_≤_};
 ghost use Rattle.telemetry.specs.Ranges.{temperatureInRange, firstOutOfRange};
 ghost use Rattle.telemetry.specs.Codes.{temperatureCode, voltageCode, degrees, millivolts};
-ghost use Rattle.telemetry.specs.Numbers.{positionNumber, sensorNumber, numbersFrom, readingOf};
-ghost use Rattle.telemetry.specs.Answer.{numbersAnswer};
-use super::Decoded;
+ghost use Rattle.telemetry.specs.Payload.{positionNumber, sensorNumber, payloadFrom, readingOf};
+ghost use Rattle.telemetry.specs.Answer.{payloadTelemetry};
 use super::Measured;
 use super::Reading;
+use super::TelemetryAnswer;
 use refusal::BAD_POSITION_NUMBER;
 use refusal::BAD_SENSOR_NUMBER;
 use refusal::EXTENDED_TELEMETRY;
 use refusal::Refusal;
-use u4b::Numbers;
+use u4b::Payload;
 
 // For the two letters of the sub-square and the altitude's code, and how many numbers they make.
 const POSITION_RADICES: [u64; 3] = [24, 24, 1_068];
@@ -67,11 +67,11 @@ fn sensor_number(m: Measured) -> u64
 }
 
 // The channel's characters and both numbers.
-pub(crate) fn numbers_from(m: Measured) -> Numbers
+pub(crate) fn payload_from(m: Measured) -> Payload
     requires { ⌜ firstOutOfRange m ≡ 9 ⌝ }
-    ensures { λ r. ⌜ r ≡ numbersFrom m ⌝ }
+    ensures { λ r. ⌜ r ≡ payloadFrom m ⌝ }
 {
-    Numbers {
+    Payload {
         first: m.first,
         third: m.third,
         upper: position_number(m),
@@ -117,26 +117,31 @@ fn reading_of(first: u8, third: u8, position: u64, sensors: u64) -> Reading
 }
 
 // The readings in the two numbers, where they are those of basic telemetry.
-pub(crate) fn read_numbers(numbers: Numbers) -> Decoded
-    ensures { λ r. ⌜ r ≡ numbersAnswer numbers ⌝ }
+pub(crate) fn read_numbers(numbers: Payload) -> TelemetryAnswer
+    ensures { λ r. ⌜ r ≡ payloadTelemetry numbers ⌝ }
 {
     if numbers.lower % 2 == 0 {
-        return Decoded::Refused(Refusal {
+        return TelemetryAnswer::Refused(Refusal {
             number: EXTENDED_TELEMETRY,
             place: 0,
         });
     }
     if POSITION_COUNT <= numbers.upper {
-        return Decoded::Refused(Refusal {
+        return TelemetryAnswer::Refused(Refusal {
             number: BAD_POSITION_NUMBER,
             place: 0,
         });
     }
     if SENSOR_COUNT <= numbers.lower {
-        return Decoded::Refused(Refusal {
+        return TelemetryAnswer::Refused(Refusal {
             number: BAD_SENSOR_NUMBER,
             place: 0,
         });
     }
-    Decoded::Telemetry(reading_of(numbers.first, numbers.third, numbers.upper, numbers.lower))
+    TelemetryAnswer::Telemetry(reading_of(
+        numbers.first,
+        numbers.third,
+        numbers.upper,
+        numbers.lower,
+    ))
 }

@@ -9,10 +9,10 @@ use Rattle.message.specs.Character.{value, callsignSets, locatorSets, setAt, le
 use Rattle.message.specs.Answer.{rightLengths, checked}
 use Rattle.u4b.specs.Channel.{isFirstCharacter}
 use Rattle.u4b.specs.Characters.{upperRadices, upperOf, lowerRadices, lowerOf, telemetryAt, firstNotTelemetry}
-use Rattle.u4b.specs.Answer.{numbersOf, messageCarried, ifLegal, carried}
+use Rattle.u4b.specs.Answer.{payloadOf, messagePayload, ifLegal, payloadRead}
 use Rattle.telemetry.specs.Codes.{metres, degrees, millivolts, knots}
-use Rattle.telemetry.specs.Numbers.{positionRadices, sensorRadices, readingFrom, readingOf}
-use Rattle.telemetry.specs.Answer.{numbersAnswer, carriedAnswer, decoded}
+use Rattle.telemetry.specs.Payload.{positionRadices, sensorRadices, readingFrom, readingOf}
+use Rattle.telemetry.specs.Answer.{payloadTelemetry, telemetryIfPayload, telemetryRead}
 use Rattle.telemetry_lines.specs.Text.{digitCharacter, decimalOf, decimalText, integerText, lineOf, header, readingText, refusalText, answerText}
 use Rattle.telemetry_lines.specs.Line.{hasForm, callsignIn, locatorIn, powerIn, lineAnswer, lineText}
 use Rattle.telemetry_lines.specs.Stream.{lineAfter, outputAfter, lastText, outputOf}
@@ -22,7 +22,7 @@ pub example-shown : outputOf exampleInput ≡ exampleOutput
 unfolding bytes firstFailing sameList count numberOf numberFrom digitsOf powers indexIn powerIndex legalPower value callsignSets
     locatorSets setAt legalAt digitAt overPlaces digitsFrom
     rightLengths checked isFirstCharacter metres degrees millivolts knots positionRadices sensorRadices readingFrom readingOf
-    upperRadices upperOf lowerRadices lowerOf telemetryAt firstNotTelemetry numbersOf messageCarried ifLegal carried numbersAnswer carriedAnswer decoded digitCharacter decimalOf
+    upperRadices upperOf lowerRadices lowerOf telemetryAt firstNotTelemetry payloadOf messagePayload ifLegal payloadRead payloadTelemetry telemetryIfPayload telemetryRead digitCharacter decimalOf
     decimalText integerText lineOf header readingText refusalText answerText hasForm callsignIn locatorIn powerIn lineAnswer lineText
     lineAfter outputAfter lastText outputOf linesOf exampleInput exampleOutput
 example-shown = sameList-equal (outputOf exampleInput) exampleOutput refl

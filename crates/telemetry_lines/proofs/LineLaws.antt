@@ -12,8 +12,8 @@ use borrow.Author.Tests.{eqb-true, eq-eqb, ne-eqb}
 use Rattle.basics.specs.Test.{between}
 use Rattle.basics.proofs.Choice.{both-true, between-range, below-or-not}
 use Rattle.refusal.specs.Refusals.{refusal, wrongLength}
-use Rattle.telemetry.specs.Answer.{decoded}
-use Rattle.telemetry.specs.declared.Decoded.{Decoded}
+use Rattle.telemetry.specs.Answer.{telemetryRead}
+use Rattle.telemetry.specs.declared.TelemetryAnswer.{TelemetryAnswer}
 use Rattle.telemetry_lines.specs.Text.{space}
 use Rattle.telemetry_lines.specs.Line.{hasForm, callsignIn, locatorIn, powerIn, lineAnswer, lineText}
 use Rattle.telemetry_lines.specs.Stream.{mostKept, heldBy}
@@ -66,11 +66,11 @@ formed line e =
 
 -- ---- The answer
 
-pub answer-other : (line : List ℕ) → hasForm line ≡ false → lineAnswer line ≡ Decoded.Refused (refusal wrongLength 0)
+pub answer-other : (line : List ℕ) → hasForm line ≡ false → lineAnswer line ≡ TelemetryAnswer.Refused (refusal wrongLength 0)
 unfolding lineAnswer
 answer-other line e = rw e
 
-pub answer-formed : (line : List ℕ) → hasForm line ≡ true → lineAnswer line ≡ decoded (take 6 line) (take 4 (drop 7 line)) (powerIn line)
+pub answer-formed : (line : List ℕ) → hasForm line ≡ true → lineAnswer line ≡ telemetryRead (take 6 line) (take 4 (drop 7 line)) (powerIn line)
 unfolding lineAnswer callsignIn locatorIn
 answer-formed line e = rw e
 

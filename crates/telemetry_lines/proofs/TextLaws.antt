@@ -14,7 +14,7 @@ use Rattle.basics.specs.Ascii.{bytes}
 use Rattle.io.specs.Digits.{glyph, digits, Fewest}
 use Rattle.basics.proofs.Choice.{cond-both}
 use Rattle.telemetry.specs.declared.Reading.{Reading}
-use Rattle.telemetry.specs.declared.Decoded.{Decoded}
+use Rattle.telemetry.specs.declared.TelemetryAnswer.{TelemetryAnswer}
 use Rattle.refusal.specs.declared.Refusal.{Refusal}
 use Rattle.telemetry_lines.specs.Text.{minus, digitCharacter, decimalOf, decimalText, integerText, lineOf, readingText, refusalText, answerText, longestLine}
 use Rattle.telemetry_lines.specs.Pieces.{positionText, firstSensorText, lastSensorText}
@@ -55,10 +55,10 @@ length-refusal : (f : Refusal) → length (refusalText f) ≤ longestLine
 unfolding refusalText lineOf bytes
 length-refusal f = simp length-append (omega (arith, length-decimal (f .number), length-decimal (f .place)))
 
-pub length-answer : (a : Decoded) → length (answerText a) ≤ longestLine
+pub length-answer : (a : TelemetryAnswer) → length (answerText a) ≤ longestLine
 unfolding answerText
-length-answer (Decoded.Telemetry r) = length-reading r
-length-answer (Decoded.Refused f) = length-refusal f
+length-answer (TelemetryAnswer.Telemetry r) = length-reading r
+length-answer (TelemetryAnswer.Refused f) = length-refusal f
 
 -- ---- Numbers
 

@@ -6,8 +6,8 @@ use lib.Dec.{eqb}
 use lib.ListN.{length, getD, take, drop}
 use Rattle.basics.specs.Test.{between}
 use Rattle.refusal.specs.Refusals.{refusal, wrongLength}
-use Rattle.telemetry.specs.Answer.{decoded}
-use Rattle.telemetry.specs.declared.Decoded.{Decoded}
+use Rattle.telemetry.specs.Answer.{telemetryRead}
+use Rattle.telemetry.specs.declared.TelemetryAnswer.{TelemetryAnswer}
 use Rattle.telemetry_lines.specs.Text.{space, answerText}
 
 -- "lines of 14 bytes (call, space, locator, space, two power digits)". In ASCII, 0-9 are 48 to 57.
@@ -30,9 +30,9 @@ unfoldable pub powerIn : List ℕ → ℕ
 powerIn line = (getD line 12 0 - 48) * 10 + (getD line 13 0 - 48)
 
 -- "A line of another length, or with other separators or digits, is refusal 1"; any other has the answer of reading telemetry.
-unfoldable pub lineAnswer : List ℕ → Decoded
+unfoldable pub lineAnswer : List ℕ → TelemetryAnswer
 lineAnswer line =
-    cond (hasForm line) (decoded (callsignIn line) (locatorIn line) (powerIn line)) (Decoded.Refused (refusal wrongLength 0))
+    cond (hasForm line) (telemetryRead (callsignIn line) (locatorIn line) (powerIn line)) (TelemetryAnswer.Refused (refusal wrongLength 0))
 
 -- What is written for a line.
 unfoldable pub lineText : List ℕ → List ℕ

@@ -7,7 +7,7 @@ use lib.IntN.{ℤ, pos, negsuc}
 use Rattle.basics.specs.Ascii.{bytes}
 use Rattle.refusal.specs.declared.Refusal.{Refusal}
 use Rattle.telemetry.specs.declared.Reading.{Reading}
-use Rattle.telemetry.specs.declared.Decoded.{Decoded}
+use Rattle.telemetry.specs.declared.TelemetryAnswer.{TelemetryAnswer}
 
 -- ---- Characters
 
@@ -75,9 +75,9 @@ refusalText f =
     ∷ decimalText (f .place)
     ∷ [])
 
-unfoldable pub answerText : Decoded → List ℕ
-answerText (Decoded.Telemetry r) = readingText r
-answerText (Decoded.Refused f) = refusalText f
+unfoldable pub answerText : TelemetryAnswer → List ℕ
+answerText (TelemetryAnswer.Telemetry r) = readingText r
+answerText (TelemetryAnswer.Refused f) = refusalText f
 
 -- No line of output is longer: there are five numbers of at most ten digits, one with a sign before it, and five other characters, with a
 -- space before each number and the newline.

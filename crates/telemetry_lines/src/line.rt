@@ -9,7 +9,7 @@ ghost use Rattle.telemetry_lines.specs.Stream.{mostKept, heldBy};
 ghost use Rattle.telemetry_lines.specs.Line.{hasForm, powerIn, lineAnswer};
 use refusal::Refusal;
 use refusal::WRONG_LENGTH;
-use telemetry::Decoded;
+use telemetry::TelemetryAnswer;
 
 // The start of a line, at most 15 bytes: one more than a line of the right length has, so that a
 // longer one is told from it. What stands in `bytes` from `length` on means nothing.
@@ -74,11 +74,11 @@ fn power_in(line: &[u8]) -> u32
 }
 
 // The answer to a whole line.
-fn answer_of(line: &[u8]) -> Decoded
+fn answer_of(line: &[u8]) -> TelemetryAnswer
     ensures { λ r. ⌜ r ≡ lineAnswer (now (line .entry)) ⌝ }
 {
     if !has_form(line) {
-        return Decoded::Refused(Refusal {
+        return TelemetryAnswer::Refused(Refusal {
             number: WRONG_LENGTH,
             place: 0,
         });
@@ -87,7 +87,7 @@ fn answer_of(line: &[u8]) -> Decoded
 }
 
 // The answer to the bytes that are held. A line of more than those has the same.
-pub(crate) fn answer_held(line: Line) -> Decoded
+pub(crate) fn answer_held(line: Line) -> TelemetryAnswer
     requires { ⌜ line .length ≤ mostKept ⌝ }
     ensures { λ r. ⌜ r ≡ lineAnswer (heldBy line) ⌝ }
 {

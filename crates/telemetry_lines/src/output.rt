@@ -9,8 +9,8 @@ ghost use Rattle.telemetry_lines.specs.Text.{space, decimalText, integer
 ghost use Rattle.telemetry_lines.specs.Pieces.{positionText, firstSensorText, lastSensorText};
 ghost use Rattle.telemetry_lines.specs.Buffer.{Put};
 use refusal::Refusal;
-use telemetry::Decoded;
 use telemetry::Reading;
+use telemetry::TelemetryAnswer;
 
 fn put(text: &[u8], out: &mut [u8], at: usize) -> usize
     requires { ⌜ at + length (now text) ≤ length (now out) ⌝ }
@@ -141,12 +141,12 @@ fn put_refusal(refusal: Refusal, out: &mut [u8], at: usize) -> usize
     put_byte(b'\n', out, end)
 }
 
-pub(crate) fn put_answer(answer: Decoded, out: &mut [u8], at: usize) -> usize
+pub(crate) fn put_answer(answer: TelemetryAnswer, out: &mut [u8], at: usize) -> usize
     requires { ⌜ at + longestLine ≤ length (now out) ⌝ }
     ensures { λ r. ⌜ Put (now (out .entry)) (now (out .exit)) at r (answerText answer) ⌝ }
 {
     match answer {
-        Decoded::Telemetry(reading) => put_reading(reading, out, at),
-        Decoded::Refused(refusal) => put_refusal(refusal, out, at),
+        TelemetryAnswer::Telemetry(reading) => put_reading(reading, out, at),
+        TelemetryAnswer::Refused(refusal) => put_refusal(refusal, out, at),
     }
 }

@@ -11,15 +11,15 @@ use Rattle.radix.specs.Numeral.{count, numberOf, numberFrom, digitsOf}
 use Rattle.power.specs.Powers.{powers, powerIndex, powerAt, legalPower}
 use Rattle.message.specs.Character.{value, character, callsignSets, locatorSets, setAt, legalAt, digitAt, characterAt, overPlaces, digitsFrom, charactersFrom}
 use Rattle.message.specs.Word.{callsignRadices, callsignNumber, locatorNumberFrom, locatorNumber, lowerNumber}
-use Rattle.message.specs.Answer.{rightLengths, checked, givenNumbers}
+use Rattle.message.specs.Answer.{rightLengths, checked, messageNumbers}
 use Rattle.u4b.specs.Channel.{isFirstCharacter}
 use Rattle.u4b.specs.Characters.{upperRadices, callsignWith, upperOf, lowerRadices, locatorWith, powerWith, lowerOf, telemetryAt, firstNotTelemetry}
-use Rattle.u4b.specs.Answer.{numbersOf, messageCarried, ifLegal, carried}
+use Rattle.u4b.specs.Answer.{payloadOf, messagePayload, ifLegal, payloadRead}
 use Rattle.telemetry.specs.Ranges.{temperatureInRange, inRanges, firstOutOfRange}
 use Rattle.telemetry.specs.Codes.{altitudeCode, temperatureCode, voltageCode, speedCode, millivolts}
-use Rattle.telemetry.specs.Numbers.{positionRadices, positionDigits, positionNumber, sensorRadices, sensorDigits, sensorNumber}
-use Rattle.telemetry.specs.Answer.{measuredAnswer, callsignFrom, locatorFrom, numbersAnswer, carriedAnswer, decoded, decodedNumbers}
-use Rattle.worked_examples.specs.BenchSheet.{Row, number, text, refused, measuredAt, writeRefused, readRefused, benchSheet, Agrees}
+use Rattle.telemetry.specs.Payload.{positionRadices, positionDigits, positionNumber, sensorRadices, sensorDigits, sensorNumber}
+use Rattle.telemetry.specs.Answer.{measuredMessage, measuredCallsign, measuredLocator, payloadTelemetry, telemetryIfPayload, telemetryRead, telemetryNumbers}
+use Rattle.worked_examples.specs.Table.{Row, number, text, refused, measuredAt, writeRefused, readRefused, examples, Agrees}
 
 abbrev same : Row → Bool
 same r = sameList (r .given) (r .stated)
@@ -32,12 +32,12 @@ agree (r ∷ rs) e =
     let tests = both-true (same r) (every same rs) e in
     (sameList-equal (r .given) (r .stated) (tests .0), agree rs (tests .1))
 
-pub bench-sheet-agrees : Agrees benchSheet
+pub examples-agree : Agrees examples
 unfolding sameList firstFailing count numberOf numberFrom digitsOf powers indexIn powerIndex powerAt legalPower value character
     callsignSets locatorSets setAt legalAt digitAt characterAt overPlaces digitsFrom charactersFrom callsignRadices callsignNumber
-    locatorNumberFrom locatorNumber lowerNumber rightLengths checked givenNumbers isFirstCharacter upperRadices callsignWith
-    upperOf lowerRadices locatorWith powerWith lowerOf telemetryAt firstNotTelemetry numbersOf messageCarried ifLegal carried
+    locatorNumberFrom locatorNumber lowerNumber rightLengths checked messageNumbers isFirstCharacter upperRadices callsignWith
+    upperOf lowerRadices locatorWith powerWith lowerOf telemetryAt firstNotTelemetry payloadOf messagePayload ifLegal payloadRead
     temperatureInRange inRanges firstOutOfRange altitudeCode temperatureCode voltageCode speedCode millivolts positionRadices positionDigits
-    positionNumber sensorRadices sensorDigits sensorNumber measuredAnswer callsignFrom locatorFrom numbersAnswer carriedAnswer decoded
-    decodedNumbers bytes number text refused measuredAt writeRefused readRefused benchSheet
-bench-sheet-agrees = agree benchSheet refl
+    positionNumber sensorRadices sensorDigits sensorNumber measuredMessage measuredCallsign measuredLocator payloadTelemetry telemetryIfPayload telemetryRead
+    telemetryNumbers bytes number text refused measuredAt writeRefused readRefused examples
+examples-agree = agree examples refl

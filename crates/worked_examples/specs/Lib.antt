@@ -1,2 +1,2 @@
--- `BenchSheet`: the worked examples that are proved.
-pub mod BenchSheet
+-- `Table`: the worked examples that are proved.
+pub mod Table

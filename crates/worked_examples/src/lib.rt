@@ -1,2 +1,2 @@
-// The worked examples of the bench sheet: one table (specs/BenchSheet.antt) under one statement
+// The worked examples of the bench sheet: one table (specs/Table.antt) under one statement
 // (proofs/Agrees.antt). No code.

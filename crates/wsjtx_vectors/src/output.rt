@@ -1,8 +1,8 @@
 // Prints what is answered: a word, a frame, a message, or in its stead the refusal.
-use frame::Written;
+use frame::WriteAnswer;
 use libc::STDOUT_FILENO;
-use message::Given;
-use message::Packed;
+use message::MessageAnswer;
+use message::WordAnswer;
 use refusal::Refusal;
 
 pub(crate) fn print(text: &[u8]) {
@@ -25,10 +25,10 @@ fn print_word(word: u64) {
     io::print_hex(STDOUT_FILENO, word, 13);
 }
 
-pub(crate) fn print_packed(packed: Packed) {
+pub(crate) fn print_packed(packed: WordAnswer) {
     match packed {
-        Packed::Word(word) => print_word(word),
-        Packed::Refused(refusal) => print_refusal(refusal),
+        WordAnswer::Word(word) => print_word(word),
+        WordAnswer::Refused(refusal) => print_refusal(refusal),
     }
 }
 
@@ -40,10 +40,10 @@ fn print_symbols(symbols: &[u8]) {
     }
 }
 
-pub(crate) fn print_written(written: Written, symbols: &[u8]) {
+pub(crate) fn print_written(written: WriteAnswer, symbols: &[u8]) {
     match written {
-        Written::Done => print_symbols(symbols),
-        Written::Refused(refusal) => print_refusal(refusal),
+        WriteAnswer::Done => print_symbols(symbols),
+        WriteAnswer::Refused(refusal) => print_refusal(refusal),
     }
 }
 
@@ -55,9 +55,9 @@ fn print_message(callsign: &[u8], locator: &[u8], power: u32) {
     io::print_decimal(STDOUT_FILENO, power as u64);
 }
 
-pub(crate) fn print_unpacked(unpacked: Given, callsign: &[u8], locator: &[u8]) {
+pub(crate) fn print_unpacked(unpacked: MessageAnswer, callsign: &[u8], locator: &[u8]) {
     match unpacked {
-        Given::Power(power) => print_message(callsign, locator, power),
-        Given::Refused(refusal) => print_refusal(refusal),
+        MessageAnswer::Power(power) => print_message(callsign, locator, power),
+        MessageAnswer::Refused(refusal) => print_refusal(refusal),
     }
 }

@@ -6,16 +6,16 @@ use mathlib.Core.Bool.{Bool, true, false, cond}
 use lib.Dec.{eqb}
 use borrow.Author.Tests.{eqb-true}
 use Rattle.refusal.specs.declared.Refusal.{Refusal}
-use Rattle.message.specs.Answer.{packedNumbers, givenNumbers}
-use Rattle.message.specs.declared.Packed.{Packed}
-use Rattle.message.specs.declared.Given.{Given}
-use Rattle.frame.specs.Answer.{writtenRefusal}
-use Rattle.frame.specs.declared.Written.{Written}
+use Rattle.message.specs.Answer.{wordNumbers, messageNumbers}
+use Rattle.message.specs.declared.WordAnswer.{WordAnswer}
+use Rattle.message.specs.declared.MessageAnswer.{MessageAnswer}
+use Rattle.frame.specs.Answer.{writeNumbers}
+use Rattle.frame.specs.declared.WriteAnswer.{WriteAnswer}
 use Rattle.repair.specs.Answer.{repairNumbers}
-use Rattle.repair.specs.declared.Repaired.{Repaired}
-use Rattle.telemetry.specs.Answer.{decodedNumbers}
-use Rattle.telemetry.specs.declared.Decoded.{Decoded}
-use Rattle.wsprcard.specs.Results.{writtenResult, wordResult, messageResult, repairedResult, readingResult, answerIn, writtenIn, packedIn, givenIn, repairedIn, decodedIn}
+use Rattle.repair.specs.declared.RepairAnswer.{RepairAnswer}
+use Rattle.telemetry.specs.Answer.{telemetryNumbers}
+use Rattle.telemetry.specs.declared.TelemetryAnswer.{TelemetryAnswer}
+use Rattle.wsprcard.specs.Results.{writtenResult, wordResult, messageResult, repairedResult, readingResult, answerIn, writeAnswerIn, wordAnswerIn, messageAnswerIn, repairAnswerIn, telemetryAnswerIn}
 
 -- The answer is the one in its result.
 pub record Found {A S : Type 0} (result : A → S) (found : S → A) (a : A) : Type 0 where
@@ -39,32 +39,32 @@ refused-found refused f {done} answered = go (eqb (f .number) 0) refl
     go true e = sym (answered (eqb-true _ _ e))
     go false e = refl
 
-pub written-found : (a : Written) → (writtenRefusal a .number ≡ 0 → a ≡ Written.Done) → Found writtenResult writtenIn a
-unfolding writtenResult writtenRefusal
-written-found Written.Done answered = record { again = refl }
-written-found (Written.Refused f) answered = record { again = refused-found Written.Refused f answered }
+pub written-found : (a : WriteAnswer) → (writeNumbers a .number ≡ 0 → a ≡ WriteAnswer.Done) → Found writtenResult writeAnswerIn a
+unfolding writtenResult writeNumbers
+written-found WriteAnswer.Done answered = record { again = refl }
+written-found (WriteAnswer.Refused f) answered = record { again = refused-found WriteAnswer.Refused f answered }
 
-pub packed-found : (a : Packed) → (packedNumbers a .number ≡ 0 → a ≡ Packed.Word (packedNumbers a .word))
-    → Found (λ answer. wordResult (packedNumbers answer)) packedIn a
-unfolding wordResult packedNumbers
-packed-found (Packed.Word w) answered = record { again = refl }
-packed-found (Packed.Refused f) answered = record { again = refused-found Packed.Refused f answered }
+pub packed-found : (a : WordAnswer) → (wordNumbers a .number ≡ 0 → a ≡ WordAnswer.Word (wordNumbers a .word))
+    → Found (λ answer. wordResult (wordNumbers answer)) wordAnswerIn a
+unfolding wordResult wordNumbers
+packed-found (WordAnswer.Word w) answered = record { again = refl }
+packed-found (WordAnswer.Refused f) answered = record { again = refused-found WordAnswer.Refused f answered }
 
-pub given-found : (a : Given) → (givenNumbers a .number ≡ 0 → a ≡ Given.Power (givenNumbers a .power))
-    → Found (λ answer. messageResult (givenNumbers answer)) givenIn a
-unfolding messageResult givenNumbers
-given-found (Given.Power p) answered = record { again = refl }
-given-found (Given.Refused f) answered = record { again = refused-found Given.Refused f answered }
+pub given-found : (a : MessageAnswer) → (messageNumbers a .number ≡ 0 → a ≡ MessageAnswer.Power (messageNumbers a .power))
+    → Found (λ answer. messageResult (messageNumbers answer)) messageAnswerIn a
+unfolding messageResult messageNumbers
+given-found (MessageAnswer.Power p) answered = record { again = refl }
+given-found (MessageAnswer.Refused f) answered = record { again = refused-found MessageAnswer.Refused f answered }
 
-pub repaired-found : (a : Repaired) → ((f : Refusal) → a ≡ Repaired.Refused f → 0 < f .number)
-    → Found (λ answer. repairedResult (repairNumbers answer)) repairedIn a
+pub repaired-found : (a : RepairAnswer) → ((f : Refusal) → a ≡ RepairAnswer.Refused f → 0 < f .number)
+    → Found (λ answer. repairedResult (repairNumbers answer)) repairAnswerIn a
 unfolding repairedResult repairNumbers
-repaired-found (Repaired.Word n) numbered = record { again = refl }
-repaired-found (Repaired.Refused f) numbered =
-    record { again = refused-found Repaired.Refused f (λ zero. absurd (omega (arith, numbered f refl))) }
+repaired-found (RepairAnswer.Word n) numbered = record { again = refl }
+repaired-found (RepairAnswer.Refused f) numbered =
+    record { again = refused-found RepairAnswer.Refused f (λ zero. absurd (omega (arith, numbered f refl))) }
 
-pub decoded-found : (a : Decoded) → (decodedNumbers a .number ≡ 0 → a ≡ Decoded.Telemetry (decodedNumbers a .reading))
-    → Found (λ answer. readingResult (decodedNumbers answer)) decodedIn a
-unfolding readingResult decodedNumbers
-decoded-found (Decoded.Telemetry r) answered = record { again = refl }
-decoded-found (Decoded.Refused f) answered = record { again = refused-found Decoded.Refused f answered }
+pub decoded-found : (a : TelemetryAnswer) → (telemetryNumbers a .number ≡ 0 → a ≡ TelemetryAnswer.Telemetry (telemetryNumbers a .reading))
+    → Found (λ answer. readingResult (telemetryNumbers answer)) telemetryAnswerIn a
+unfolding readingResult telemetryNumbers
+decoded-found (TelemetryAnswer.Telemetry r) answered = record { again = refl }
+decoded-found (TelemetryAnswer.Refused f) answered = record { again = refused-found TelemetryAnswer.Refused f answered }

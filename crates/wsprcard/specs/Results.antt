@@ -5,16 +5,16 @@ use lib.Dec.{eqb}
 use lib.IntN.{ℤ}
 use Rattle.refusal.specs.Refusals.{refusal}
 use Rattle.refusal.specs.declared.Refusal.{Refusal}
-use Rattle.message.specs.Answer.{WordNumbers, PowerNumbers}
-use Rattle.message.specs.declared.Packed.{Packed}
-use Rattle.message.specs.declared.Given.{Given}
-use Rattle.frame.specs.Answer.{writtenRefusal}
-use Rattle.frame.specs.declared.Written.{Written}
+use Rattle.message.specs.Answer.{WordNumbers, MessageNumbers}
+use Rattle.message.specs.declared.WordAnswer.{WordAnswer}
+use Rattle.message.specs.declared.MessageAnswer.{MessageAnswer}
+use Rattle.frame.specs.Answer.{writeNumbers}
+use Rattle.frame.specs.declared.WriteAnswer.{WriteAnswer}
 use Rattle.repair.specs.Answer.{RepairNumbers}
-use Rattle.repair.specs.declared.Repaired.{Repaired}
-use Rattle.telemetry.specs.Answer.{ReadingNumbers}
+use Rattle.repair.specs.declared.RepairAnswer.{RepairAnswer}
+use Rattle.telemetry.specs.Answer.{TelemetryNumbers}
 use Rattle.telemetry.specs.declared.Measured.{Measured}
-use Rattle.telemetry.specs.declared.Decoded.{Decoded}
+use Rattle.telemetry.specs.declared.TelemetryAnswer.{TelemetryAnswer}
 use Rattle.wsprcard.specs.declared.WsprWritten.{WsprWritten}
 use Rattle.wsprcard.specs.declared.WsprWord.{WsprWord}
 use Rattle.wsprcard.specs.declared.WsprMessage.{WsprMessage}
@@ -23,13 +23,13 @@ use Rattle.wsprcard.specs.declared.U4bReading.{U4bReading}
 
 -- ---- The answers' result numbers, as the layer's definition gives them, field by field
 
-unfoldable pub writtenResult : Written → WsprWritten
-writtenResult answer = record { refusal = writtenRefusal answer .number; place = writtenRefusal answer .place }
+unfoldable pub writtenResult : WriteAnswer → WsprWritten
+writtenResult answer = record { refusal = writeNumbers answer .number; place = writeNumbers answer .place }
 
 unfoldable pub wordResult : WordNumbers → WsprWord
 wordResult numbers = record { refusal = numbers .number; place = numbers .place; word = numbers .word }
 
-unfoldable pub messageResult : PowerNumbers → WsprMessage
+unfoldable pub messageResult : MessageNumbers → WsprMessage
 messageResult numbers = record { refusal = numbers .number; place = numbers .place; power = numbers .power }
 
 unfoldable pub repairedResult : RepairNumbers → WsprRepaired
@@ -44,7 +44,7 @@ repairedResult numbers =
       «sync_wrong» = n .«sync_wrong»;
     }
 
-unfoldable pub readingResult : ReadingNumbers → U4bReading
+unfoldable pub readingResult : TelemetryNumbers → U4bReading
 readingResult numbers =
     let r = numbers .reading in
     record {
@@ -67,25 +67,25 @@ readingResult numbers =
 abbrev pub answerIn : {A : Type 0} → ℕ → ℕ → A → (Refusal → A) → A
 answerIn number place done refused = cond (eqb number 0) done (refused (refusal number place))
 
-abbrev pub writtenIn : WsprWritten → Written
-writtenIn r = answerIn (r .refusal) (r .place) Written.Done Written.Refused
+abbrev pub writeAnswerIn : WsprWritten → WriteAnswer
+writeAnswerIn r = answerIn (r .refusal) (r .place) WriteAnswer.Done WriteAnswer.Refused
 
-abbrev pub packedIn : WsprWord → Packed
-packedIn r = answerIn (r .refusal) (r .place) (Packed.Word (r .word)) Packed.Refused
+abbrev pub wordAnswerIn : WsprWord → WordAnswer
+wordAnswerIn r = answerIn (r .refusal) (r .place) (WordAnswer.Word (r .word)) WordAnswer.Refused
 
-abbrev pub givenIn : WsprMessage → Given
-givenIn r = answerIn (r .refusal) (r .place) (Given.Power (r .power)) Given.Refused
+abbrev pub messageAnswerIn : WsprMessage → MessageAnswer
+messageAnswerIn r = answerIn (r .refusal) (r .place) (MessageAnswer.Power (r .power)) MessageAnswer.Refused
 
-abbrev pub repairedIn : WsprRepaired → Repaired
-repairedIn r =
+abbrev pub repairAnswerIn : WsprRepaired → RepairAnswer
+repairAnswerIn r =
     answerIn (r .refusal) (r .place)
-    (Repaired.Word (record { word = r .word; disagreements = r .disagreements; live = r .live; «sync_wrong» = r .«sync_wrong» }))
-    Repaired.Refused
+    (RepairAnswer.Word (record { word = r .word; disagreements = r .disagreements; live = r .live; «sync_wrong» = r .«sync_wrong» }))
+    RepairAnswer.Refused
 
-abbrev pub decodedIn : U4bReading → Decoded
-decodedIn r =
+abbrev pub telemetryAnswerIn : U4bReading → TelemetryAnswer
+telemetryAnswerIn r =
     answerIn (r .refusal) (r .place)
-    (Decoded.Telemetry (record {
+    (TelemetryAnswer.Telemetry (record {
       first = r .first;
       third = r .third;
       grid5 = r .grid5;
@@ -96,7 +96,7 @@ decodedIn r =
       speed = r .speed;
       gps = r .gps;
     }))
-    Decoded.Refused
+    TelemetryAnswer.Refused
 
 -- ---- The arguments of telemetry as the layer's record
 

@@ -1,21 +1,21 @@
 // The card's functions for a host in C, declared in include/wsprcard.h: each is a thin layer over
 // that of its crate, with the answer's result numbers in a struct.
 ghost use mathlib.Core.Path.{_≡_};
-ghost use Rattle.message.specs.Answer.{packed, unpacked, callsignAfter, locatorAfter, packedNumbers, givenNumbers};
-ghost use Rattle.message.specs.RoundTrip.{ReadsBack, PacksBack, RefusesExactly};
-ghost use Rattle.frame.specs.Answer.{wordWritten, messageWritten, frameAfterWord, frameAfterMessage, wordRead, messageRead, callsignRead, locatorRead};
+ghost use Rattle.message.specs.Answer.{packed, unpacked, callsignAfterUnpack, locatorAfterUnpack, wordNumbers, messageNumbers};
+ghost use Rattle.message.specs.RoundTrip.{UnpacksBack, PacksBack, UnpackRefusedExactly};
+ghost use Rattle.frame.specs.Answer.{wordWritten, messageWritten, frameAfterWord, frameAfterMessage, wordRead, messageRead, callsignAfterRead, locatorAfterRead};
 ghost use Rattle.frame.specs.RoundTrip.{WordReadsBack, WordWritesBack, WordRefusedExactly, NoWordRefused, MessageReadsBack, MessageWritesBack, MessageRefusedExactly};
 ghost use Rattle.repair.specs.Answer.{repaired, repairNumbers};
 ghost use Rattle.repair.specs.Demand.{AsChecked, AsDemanded, TwoFlipsRepaired};
-ghost use Rattle.telemetry.specs.Answer.{written, decoded, decodedNumbers, callsignWritten, locatorWritten};
-ghost use Rattle.telemetry.specs.RoundTrip as Telemetry;
-ghost use Rattle.wsprcard.specs.Results.{writtenResult, wordResult, messageResult, repairedResult, readingResult, writtenIn, packedIn, givenIn, repairedIn, decodedIn, measuredFrom};
-use frame::Written;
-use message::Given;
-use message::Packed;
-use repair::Repaired;
-use telemetry::Decoded;
+ghost use Rattle.telemetry.specs.Answer.{telemetryWritten, telemetryRead, telemetryNumbers, callsignAfterWrite, locatorAfterWrite};
+ghost use Rattle.telemetry.specs.RoundTrip.{TelemetryReadsBack, TelemetryWritesBack, TelemetryRefusedExactly};
+ghost use Rattle.wsprcard.specs.Results.{writtenResult, wordResult, messageResult, repairedResult, readingResult, writeAnswerIn, wordAnswerIn, messageAnswerIn, repairAnswerIn, telemetryAnswerIn, measuredFrom};
+use frame::WriteAnswer;
+use message::MessageAnswer;
+use message::WordAnswer;
+use repair::RepairAnswer;
 use telemetry::Measured;
+use telemetry::TelemetryAnswer;
 
 // Refusal number (0: success) and place.
 #[repr(C)]
@@ -69,15 +69,15 @@ pub struct U4bReading {
 }
 
 // The result of writing a frame.
-fn written_result(answer: Written) -> WsprWritten
+fn written_result(answer: WriteAnswer) -> WsprWritten
     ensures { λ r. ⌜ r ≡ writtenResult answer ⌝ }
 {
     match answer {
-        Written::Done => WsprWritten {
+        WriteAnswer::Done => WsprWritten {
             refusal: 0,
             place: 0,
         },
-        Written::Refused(refusal) => WsprWritten {
+        WriteAnswer::Refused(refusal) => WsprWritten {
             refusal: refusal.number, // never 0
             place: refusal.place,
         },
@@ -85,16 +85,16 @@ fn written_result(answer: Written) -> WsprWritten
 }
 
 // The result with a word.
-fn word_result(answer: Packed) -> WsprWord
-    ensures { λ r. ⌜ r ≡ wordResult (packedNumbers answer) ⌝ }
+fn word_result(answer: WordAnswer) -> WsprWord
+    ensures { λ r. ⌜ r ≡ wordResult (wordNumbers answer) ⌝ }
 {
     match answer {
-        Packed::Word(word) => WsprWord {
+        WordAnswer::Word(word) => WsprWord {
             refusal: 0,
             place: 0,
             word,
         },
-        Packed::Refused(refusal) => WsprWord {
+        WordAnswer::Refused(refusal) => WsprWord {
             refusal: refusal.number,
             place: refusal.place,
             word: 0, // "zero everywhere else"
@@ -103,16 +103,16 @@ fn word_result(answer: Packed) -> WsprWord
 }
 
 // The result with a message's power.
-fn message_result(answer: Given) -> WsprMessage
-    ensures { λ r. ⌜ r ≡ messageResult (givenNumbers answer) ⌝ }
+fn message_result(answer: MessageAnswer) -> WsprMessage
+    ensures { λ r. ⌜ r ≡ messageResult (messageNumbers answer) ⌝ }
 {
     match answer {
-        Given::Power(power) => WsprMessage {
+        MessageAnswer::Power(power) => WsprMessage {
             refusal: 0,
             place: 0,
             power,
         },
-        Given::Refused(refusal) => WsprMessage {
+        MessageAnswer::Refused(refusal) => WsprMessage {
             refusal: refusal.number,
             place: refusal.place,
             power: 0,
@@ -121,11 +121,11 @@ fn message_result(answer: Given) -> WsprMessage
 }
 
 // The result of a repair.
-fn repaired_result(answer: Repaired) -> WsprRepaired
+fn repaired_result(answer: RepairAnswer) -> WsprRepaired
     ensures { λ r. ⌜ r ≡ repairedResult (repairNumbers answer) ⌝ }
 {
     match answer {
-        Repaired::Word(nearest) => WsprRepaired {
+        RepairAnswer::Word(nearest) => WsprRepaired {
             refusal: 0,
             place: 0,
             word: nearest.word,
@@ -133,7 +133,7 @@ fn repaired_result(answer: Repaired) -> WsprRepaired
             live: nearest.live,
             sync_wrong: nearest.sync_wrong,
         },
-        Repaired::Refused(refusal) => WsprRepaired {
+        RepairAnswer::Refused(refusal) => WsprRepaired {
             refusal: refusal.number,
             place: refusal.place,
             word: 0,
@@ -145,11 +145,11 @@ fn repaired_result(answer: Repaired) -> WsprRepaired
 }
 
 // The result of reading telemetry.
-fn reading_result(answer: Decoded) -> U4bReading
-    ensures { λ r. ⌜ r ≡ readingResult (decodedNumbers answer) ⌝ }
+fn reading_result(answer: TelemetryAnswer) -> U4bReading
+    ensures { λ r. ⌜ r ≡ readingResult (telemetryNumbers answer) ⌝ }
 {
     match answer {
-        Decoded::Telemetry(reading) => U4bReading {
+        TelemetryAnswer::Telemetry(reading) => U4bReading {
             refusal: 0,
             place: 0,
             first: reading.first,
@@ -162,7 +162,7 @@ fn reading_result(answer: Decoded) -> U4bReading
             speed: reading.speed,
             gps: reading.gps,
         },
-        Decoded::Refused(refusal) => U4bReading {
+        TelemetryAnswer::Refused(refusal) => U4bReading {
             refusal: refusal.number,
             place: refusal.place,
             first: 0,
@@ -181,8 +181,8 @@ fn reading_result(answer: Decoded) -> U4bReading
 // The word of a message.
 #[no_mangle]
 pub extern "C" fn wspr_pack(callsign: &[u8], locator: &[u8], power: u32) -> WsprWord
-    ensures answer { λ r. ⌜ r ≡ wordResult (packedNumbers (packed (now (callsign .entry)) (now (locator .entry)) power)) ⌝ }
-    ensures reads_back { λ r. ⌜ ReadsBack (packedIn r) (now (callsign .entry)) (now (locator .entry)) power ⌝ }
+    ensures answer { λ r. ⌜ r ≡ wordResult (wordNumbers (packed (now (callsign .entry)) (now (locator .entry)) power)) ⌝ }
+    ensures reads_back { λ r. ⌜ UnpacksBack (wordAnswerIn r) (now (callsign .entry)) (now (locator .entry)) power ⌝ }
 {
     word_result(message::pack(callsign, locator, power))
 }
@@ -190,11 +190,11 @@ pub extern "C" fn wspr_pack(callsign: &[u8], locator: &[u8], power: u32) -> Wspr
 // The message of a word: its callsign and locator are written, its power is returned.
 #[no_mangle]
 pub extern "C" fn wspr_unpack(word: u64, callsign: &mut [u8], locator: &mut [u8]) -> WsprMessage
-    ensures answer { λ r. ⌜ r ≡ messageResult (givenNumbers (unpacked (now (callsign .entry)) (now (locator .entry)) word)) ⌝ }
-    ensures callsign_after { λ _. ⌜ now (callsign .exit) ≡ callsignAfter (now (callsign .entry)) (now (locator .entry)) word ⌝ }
-    ensures locator_after { λ _. ⌜ now (locator .exit) ≡ locatorAfter (now (callsign .entry)) (now (locator .entry)) word ⌝ }
-    ensures packs_back { λ r. ⌜ PacksBack (givenIn r) word (now (callsign .exit)) (now (locator .exit)) ⌝ }
-    ensures refuses_exactly { λ r. ⌜ RefusesExactly (givenIn r) word (now (callsign .entry)) (now (locator .entry)) ⌝ }
+    ensures answer { λ r. ⌜ r ≡ messageResult (messageNumbers (unpacked (now (callsign .entry)) (now (locator .entry)) word)) ⌝ }
+    ensures callsign_after { λ _. ⌜ now (callsign .exit) ≡ callsignAfterUnpack (now (callsign .entry)) (now (locator .entry)) word ⌝ }
+    ensures locator_after { λ _. ⌜ now (locator .exit) ≡ locatorAfterUnpack (now (callsign .entry)) (now (locator .entry)) word ⌝ }
+    ensures packs_back { λ r. ⌜ PacksBack (messageAnswerIn r) word (now (callsign .exit)) (now (locator .exit)) ⌝ }
+    ensures refuses_exactly { λ r. ⌜ UnpackRefusedExactly (messageAnswerIn r) word (now (callsign .entry)) (now (locator .entry)) ⌝ }
 {
     message_result(message::unpack(word, callsign, locator))
 }
@@ -204,7 +204,7 @@ pub extern "C" fn wspr_unpack(word: u64, callsign: &mut [u8], locator: &mut [u8]
 pub extern "C" fn wspr_write_word(word: u64, frame: &mut [u8]) -> WsprWritten
     ensures answer { λ r. ⌜ r ≡ writtenResult (wordWritten (now (frame .entry)) word) ⌝ }
     ensures frame_after { λ _. ⌜ now (frame .exit) ≡ frameAfterWord (now (frame .entry)) word ⌝ }
-    ensures reads_back { λ r. ⌜ WordReadsBack (writtenIn r) word (now (frame .exit)) ⌝ }
+    ensures reads_back { λ r. ⌜ WordReadsBack (writeAnswerIn r) word (now (frame .exit)) ⌝ }
 {
     written_result(frame::write_word(word, frame))
 }
@@ -219,7 +219,7 @@ pub extern "C" fn wspr_write_message(
 ) -> WsprWritten
     ensures answer { λ r. ⌜ r ≡ writtenResult (messageWritten (now (callsign .entry)) (now (locator .entry)) power (now (frame .entry))) ⌝ }
     ensures frame_after { λ _. ⌜ now (frame .exit) ≡ frameAfterMessage (now (callsign .entry)) (now (locator .entry)) power (now (frame .entry)) ⌝ }
-    ensures reads_back { λ r. ⌜ MessageReadsBack (writtenIn r) (now (callsign .entry)) (now (locator .entry)) power (now (frame .exit)) ⌝ }
+    ensures reads_back { λ r. ⌜ MessageReadsBack (writeAnswerIn r) (now (callsign .entry)) (now (locator .entry)) power (now (frame .exit)) ⌝ }
 {
     written_result(frame::write_message(callsign, locator, power, frame))
 }
@@ -227,10 +227,10 @@ pub extern "C" fn wspr_write_message(
 // The word of a frame.
 #[no_mangle]
 pub extern "C" fn wspr_read_word(frame: &[u8]) -> WsprWord
-    ensures answer { λ r. ⌜ r ≡ wordResult (packedNumbers (wordRead (now (frame .entry)))) ⌝ }
-    ensures writes_back { λ r. ⌜ WordWritesBack (packedIn r) (now (frame .entry)) ⌝ }
-    ensures refuses_exactly { λ r. ⌜ WordRefusedExactly (packedIn r) (now (frame .entry)) ⌝ }
-    ensures no_word { λ r. ⌜ NoWordRefused (packedIn r) (now (frame .entry)) ⌝ }
+    ensures answer { λ r. ⌜ r ≡ wordResult (wordNumbers (wordRead (now (frame .entry)))) ⌝ }
+    ensures writes_back { λ r. ⌜ WordWritesBack (wordAnswerIn r) (now (frame .entry)) ⌝ }
+    ensures refuses_exactly { λ r. ⌜ WordRefusedExactly (wordAnswerIn r) (now (frame .entry)) ⌝ }
+    ensures no_word { λ r. ⌜ NoWordRefused (wordAnswerIn r) (now (frame .entry)) ⌝ }
 {
     word_result(frame::read_word(frame))
 }
@@ -242,11 +242,11 @@ pub extern "C" fn wspr_read_message(
     callsign: &mut [u8],
     locator: &mut [u8],
 ) -> WsprMessage
-    ensures answer { λ r. ⌜ r ≡ messageResult (givenNumbers (messageRead (now (frame .entry)) (now (callsign .entry)) (now (locator .entry)))) ⌝ }
-    ensures callsign_after { λ _. ⌜ now (callsign .exit) ≡ callsignRead (now (frame .entry)) (now (callsign .entry)) (now (locator .entry)) ⌝ }
-    ensures locator_after { λ _. ⌜ now (locator .exit) ≡ locatorRead (now (frame .entry)) (now (callsign .entry)) (now (locator .entry)) ⌝ }
-    ensures writes_back { λ r. ⌜ MessageWritesBack (givenIn r) (now (frame .entry)) (now (callsign .exit)) (now (locator .exit)) ⌝ }
-    ensures refuses_exactly { λ r. ⌜ MessageRefusedExactly (givenIn r) (now (frame .entry)) (now (callsign .entry)) (now (locator .entry)) ⌝ }
+    ensures answer { λ r. ⌜ r ≡ messageResult (messageNumbers (messageRead (now (frame .entry)) (now (callsign .entry)) (now (locator .entry)))) ⌝ }
+    ensures callsign_after { λ _. ⌜ now (callsign .exit) ≡ callsignAfterRead (now (frame .entry)) (now (callsign .entry)) (now (locator .entry)) ⌝ }
+    ensures locator_after { λ _. ⌜ now (locator .exit) ≡ locatorAfterRead (now (frame .entry)) (now (callsign .entry)) (now (locator .entry)) ⌝ }
+    ensures writes_back { λ r. ⌜ MessageWritesBack (messageAnswerIn r) (now (frame .entry)) (now (callsign .exit)) (now (locator .exit)) ⌝ }
+    ensures refuses_exactly { λ r. ⌜ MessageRefusedExactly (messageAnswerIn r) (now (frame .entry)) (now (callsign .entry)) (now (locator .entry)) ⌝ }
 {
     message_result(frame::read_message(frame, callsign, locator))
 }
@@ -255,9 +255,9 @@ pub extern "C" fn wspr_read_message(
 #[no_mangle]
 pub extern "C" fn wspr_repair(frame: &[u8], limit: u32, budget: u32) -> WsprRepaired
     ensures answer { λ r. ⌜ r ≡ repairedResult (repairNumbers (repaired (now (frame .entry)) limit budget)) ⌝ }
-    ensures checked { λ r. ⌜ AsChecked (now (frame .entry)) limit budget (repairedIn r) ⌝ }
-    ensures demanded { λ r. ⌜ AsDemanded (now (frame .entry)) limit budget (repairedIn r) ⌝ }
-    ensures two_flips { λ r. ⌜ TwoFlipsRepaired (now (frame .entry)) limit budget (repairedIn r) ⌝ }
+    ensures checked { λ r. ⌜ AsChecked (now (frame .entry)) limit budget (repairAnswerIn r) ⌝ }
+    ensures demanded { λ r. ⌜ AsDemanded (now (frame .entry)) limit budget (repairAnswerIn r) ⌝ }
+    ensures two_flips { λ r. ⌜ TwoFlipsRepaired (now (frame .entry)) limit budget (repairAnswerIn r) ⌝ }
 {
     repaired_result(repair::repair(frame, limit, budget))
 }
@@ -277,10 +277,10 @@ pub extern "C" fn u4b_write(
     callsign: &mut [u8],
     locator: &mut [u8],
 ) -> WsprMessage
-    ensures answer { λ r. ⌜ r ≡ messageResult (givenNumbers (written (now (callsign .entry)) (now (locator .entry)) (measuredFrom first third grid5 grid6 altitude temperature voltage speed gps))) ⌝ }
-    ensures callsign_after { λ _. ⌜ now (callsign .exit) ≡ callsignWritten (now (callsign .entry)) (now (locator .entry)) (measuredFrom first third grid5 grid6 altitude temperature voltage speed gps) ⌝ }
-    ensures locator_after { λ _. ⌜ now (locator .exit) ≡ locatorWritten (now (callsign .entry)) (now (locator .entry)) (measuredFrom first third grid5 grid6 altitude temperature voltage speed gps) ⌝ }
-    ensures reads_back { λ r. ⌜ Telemetry.ReadsBack (givenIn r) (measuredFrom first third grid5 grid6 altitude temperature voltage speed gps) (now (callsign .exit)) (now (locator .exit)) ⌝ }
+    ensures answer { λ r. ⌜ r ≡ messageResult (messageNumbers (telemetryWritten (now (callsign .entry)) (now (locator .entry)) (measuredFrom first third grid5 grid6 altitude temperature voltage speed gps))) ⌝ }
+    ensures callsign_after { λ _. ⌜ now (callsign .exit) ≡ callsignAfterWrite (now (callsign .entry)) (now (locator .entry)) (measuredFrom first third grid5 grid6 altitude temperature voltage speed gps) ⌝ }
+    ensures locator_after { λ _. ⌜ now (locator .exit) ≡ locatorAfterWrite (now (callsign .entry)) (now (locator .entry)) (measuredFrom first third grid5 grid6 altitude temperature voltage speed gps) ⌝ }
+    ensures reads_back { λ r. ⌜ TelemetryReadsBack (messageAnswerIn r) (measuredFrom first third grid5 grid6 altitude temperature voltage speed gps) (now (callsign .exit)) (now (locator .exit)) ⌝ }
 {
     let measured = Measured {
         first,
@@ -299,9 +299,9 @@ pub extern "C" fn u4b_write(
 // The telemetry of a message.
 #[no_mangle]
 pub extern "C" fn u4b_read(callsign: &[u8], locator: &[u8], power: u32) -> U4bReading
-    ensures answer { λ r. ⌜ r ≡ readingResult (decodedNumbers (decoded (now (callsign .entry)) (now (locator .entry)) power)) ⌝ }
-    ensures writes_back { λ r. ⌜ Telemetry.WritesBack (decodedIn r) (now (callsign .entry)) (now (locator .entry)) power ⌝ }
-    ensures refuses_exactly { λ r. ⌜ Telemetry.RefusesExactly (decodedIn r) (now (callsign .entry)) (now (locator .entry)) power ⌝ }
+    ensures answer { λ r. ⌜ r ≡ readingResult (telemetryNumbers (telemetryRead (now (callsign .entry)) (now (locator .entry)) power)) ⌝ }
+    ensures writes_back { λ r. ⌜ TelemetryWritesBack (telemetryAnswerIn r) (now (callsign .entry)) (now (locator .entry)) power ⌝ }
+    ensures refuses_exactly { λ r. ⌜ TelemetryRefusedExactly (telemetryAnswerIn r) (now (callsign .entry)) (now (locator .entry)) power ⌝ }
 {
     reading_result(telemetry::read(callsign, locator, power))
 }

@@ -5,12 +5,12 @@ use Rattle.convolution.specs.Code.{firstMask}
 use Rattle.convolution.proofs.first_coded.Statement.{statement}
 use Rattle.convolution.proofs.first_coded.Tie as tie
 
-parity-requires : tie.Need-parity-requires
-parity-requires c κs = search needs
+masked-parity-requires : tie.Need-masked-parity-requires
+masked-parity-requires c κs = search needs
 
 returns : tie.Need-returns
 unfolding firstMask
-returns c = c .parity .ensures
+returns c = c .masked-parity .ensures
 
 pub first-coded-spec : {M : Type 1} → statement M
-first-coded-spec = tie.close (tie.spec parity-requires returns)
+first-coded-spec = tie.close (tie.spec masked-parity-requires returns)

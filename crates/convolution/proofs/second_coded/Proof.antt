@@ -5,12 +5,12 @@ use Rattle.convolution.specs.Code.{secondMask}
 use Rattle.convolution.proofs.second_coded.Statement.{statement}
 use Rattle.convolution.proofs.second_coded.Tie as tie
 
-parity-requires : tie.Need-parity-requires
-parity-requires c κs = search needs
+masked-parity-requires : tie.Need-masked-parity-requires
+masked-parity-requires c κs = search needs
 
 returns : tie.Need-returns
 unfolding secondMask
-returns c = c .parity .ensures
+returns c = c .masked-parity .ensures
 
 pub second-coded-spec : {M : Type 1} → statement M
-second-coded-spec = tie.close (tie.spec parity-requires returns)
+second-coded-spec = tie.close (tie.spec masked-parity-requires returns)

@@ -7,8 +7,8 @@ use Rattle.power.proofs.Laws.{legal-power-end}
 use Rattle.message.specs.Character.{legalAt}
 use Rattle.message.specs.Word.{wordOf}
 use Rattle.message.specs.Answer.{checked}
-use Rattle.message.specs.declared.Checked.{Checked}
-use Rattle.message.specs.declared.Packed.{Packed}
+use Rattle.message.specs.declared.CheckAnswer.{CheckAnswer}
+use Rattle.message.specs.declared.WordAnswer.{WordAnswer}
 use Rattle.message.proofs.WordLaws.{callsignNumber-below, locatorNumber-below}
 use Rattle.message.proofs.AnswerLaws.{Legal, legal-of-checked, packed-refused, packed-word}
 use Rattle.message.proofs.RoundTripLaws.{unpack-pack}
@@ -18,7 +18,7 @@ use Rattle.message.proofs.pack.Tie as tie
 
 -- Past the test the message is legal.
 is-checked : (c : tie.After-enum-told) → let a = c .before .before .before .before .before .args in
-    checked (a .callsign .now) (a .locator .now) (a .power) ≡ Checked.Legal
+    checked (a .callsign .now) (a .locator .now) (a .power) ≡ CheckAnswer.Legal
 is-checked c = sym (c .before .before .check .ensures) ∙ c .enum-told .given .1
 
 its-legal : (c : tie.After-enum-told) → let a = c .before .before .before .before .before .args in
@@ -65,7 +65,7 @@ returns-2 c =
     let callsign = c .before .before .callsign-number .ensures in
     let locator = c .before .locator-number .ensures in
     let word : c .assemble .result ≡ wordOf (a .callsign .now) (a .locator .now) (a .power) = cc (c .assemble .ensures) in
-    let made = packed-word (a .callsign .now) (a .locator .now) (a .power) (is-checked k) ∙ ap Packed.Word (sym word) in
+    let made = packed-word (a .callsign .now) (a .locator .now) (a .power) (is-checked k) ∙ ap WordAnswer.Word (sym word) in
     (sym made, unpack-pack _ _ _ _ made)
 
 pub pack-spec : {M : Type 1} → statement M

@@ -8,8 +8,8 @@ use lib.ListN.{length}
 use borrow.Author.Tests.{not-true, not-false}
 use Rattle.message.specs.Answer.{rightLengths}
 use Rattle.message.proofs.AnswerLaws.{lengths-of-right}
-use Rattle.telemetry.specs.Numbers.{numbersFrom}
-use Rattle.telemetry.specs.Answer.{callsignFrom, locatorFrom}
+use Rattle.telemetry.specs.Payload.{payloadFrom}
+use Rattle.telemetry.specs.Answer.{measuredCallsign, measuredLocator}
 use Rattle.telemetry.proofs.RangeLaws.{InRange, in-range, none-out-of-range}
 use Rattle.telemetry.proofs.AnswerLaws.{measured-range, measured-power, written-length, written-measured}
 use Rattle.telemetry.proofs.RoundTripLaws.{write-refused, write-done}
@@ -45,17 +45,17 @@ returns-2 c =
     (written-measured (a .callsign .now) (a .locator .now) (a .measured) (right e)
     ∙ measured-range (a .measured) _ (sym (c .before .first-out-of-range .ensures)) (c .if2 .taken))
 
-numbers-from-requires : tie.Need-numbers-from-requires
-numbers-from-requires c κs = none-out-of-range _ (its-range c)
+payload-from-requires : tie.Need-payload-from-requires
+payload-from-requires c κs = none-out-of-range _ (its-range c)
 
 write-requires : tie.Need-write-requires
-unfolding numbersFrom
+unfolding payloadFrom
 write-requires c κs =
     let n = c .before .before in
     let e = n .before in
     let a = e .before .before .before .before .before .before .args in
     let lengths = lengths-of-right (a .callsign .now) (a .locator .now) (right (e .before .before)) in
-    rw (n .numbers-from .ensures) (lengths .0, (lengths .1, (its-range e .first, its-range e .third)))
+    rw (n .payload-from .ensures) (lengths .0, (lengths .1, (its-range e .first, its-range e .third)))
 
 same-length : tie.Need-same-length
 same-length c = search needs
@@ -64,14 +64,14 @@ same-length-2 : tie.Need-same-length-2
 same-length-2 c = search needs
 
 returns-3 : tie.Need-returns-3
-unfolding numbersFrom callsignFrom locatorFrom
+unfolding payloadFrom measuredCallsign measuredLocator
 returns-3 c =
     let w = c .before .before .before .before in
     let n = w .before .before .before in
     let e = n .before in
     let a = e .before .before .before .before .before .before .args in
     let done = measured-power (a .measured) (omega (arith, e .before .first-out-of-range .ensures)) in
-    rw (w .write .ensures .0, w .write .ensures .1 .0, w .write .ensures .1 .1, n .numbers-from .ensures)
+    rw (w .write .ensures .0, w .write .ensures .1 .0, w .write .ensures .1 .1, n .payload-from .ensures)
     (write-done (a .callsign .now) (a .locator .now) (a .measured) _ (right (e .before .before)) done)
 
 pub write-spec : {M : Type 1} → statement M
@@ -82,7 +82,7 @@ write-spec =
     returns
     first-out-of-range-requires
     returns-2
-    numbers-from-requires
+    payload-from-requires
     write-requires
     same-length
     same-length-2

@@ -6,16 +6,16 @@ use borrow.Author.Needs.{needs}
 use Rattle.basics.proofs.ListLaws.{none-fails}
 use Rattle.message.specs.Character.{legalAt}
 use Rattle.message.specs.Answer.{checked}
-use Rattle.message.specs.declared.Checked.{Checked}
+use Rattle.message.specs.declared.CheckAnswer.{CheckAnswer}
 use Rattle.message.proofs.AnswerLaws.{Legal, legal-of-checked}
-use Rattle.u4b.specs.Answer.{numbersOf}
+use Rattle.u4b.specs.Answer.{payloadOf}
 use Rattle.u4b.proofs.AnswerLaws.{carried-refused, carried-not-telemetry, carried-numbers}
 use Rattle.u4b.proofs.read.Statement.{statement}
 use Rattle.u4b.proofs.read.Tie as tie
 
 -- Past the first test the message is legal.
 is-checked : (c : tie.After-enum-told) → let a = c .before .before .before .before .before .args in
-    checked (a .callsign .now) (a .locator .now) (a .power) ≡ Checked.Legal
+    checked (a .callsign .now) (a .locator .now) (a .power) ≡ CheckAnswer.Legal
 is-checked c = sym (c .before .before .check .ensures) ∙ c .enum-told .given .1
 
 its-legal : (c : tie.After-enum-told) → let a = c .before .before .before .before .before .args in
@@ -73,7 +73,7 @@ lower-of-requires c κs =
     (l .four, (omega (arith, l .four, none-fails legalAt 6 _ (l .locator-legal)), l .power-legal))
 
 returns-3 : tie.Need-returns-3
-unfolding numbersOf
+unfolding payloadOf
 returns-3 c =
     let u = c .before in
     let e = u .before .before .before in

@@ -3,8 +3,8 @@
 use mathlib.Core.Path.{sym, ap}
 use mir.Facts.{toZ-ofZ}
 use mir.Syntax.{w32}
-use Rattle.telemetry.specs.Answer.{noReading, decodedNumbers}
-use Rattle.telemetry.specs.declared.Decoded.{Decoded}
+use Rattle.telemetry.specs.Answer.{noReading, telemetryNumbers}
+use Rattle.telemetry.specs.declared.TelemetryAnswer.{TelemetryAnswer}
 use Rattle.wsprcard.specs.Results.{readingResult}
 use borrow.Author.Needs.{needs}
 use Rattle.wsprcard.proofs.reading_result.Statement.{statement}
@@ -17,15 +17,15 @@ enum-known-answer-2 : tie.Need-enum-known-answer-2
 enum-known-answer-2 c = search needs
 
 returns : tie.Need-returns
-unfolding readingResult decodedNumbers
+unfolding readingResult telemetryNumbers
 returns c =
     let n = c .before .before .answer .given in
     rw (toZ-ofZ {w = w32} {z = n .0 .0 .temperature} (record { sfits = c .struct-told .given .1 .1 .1 .1 .1 .0 .1 }))
-    (sym (ap (λ (a : Decoded). readingResult (decodedNumbers a)) (n .1)))
+    (sym (ap (λ (a : TelemetryAnswer). readingResult (telemetryNumbers a)) (n .1)))
 
 returns-2 : tie.Need-returns-2
-unfolding readingResult decodedNumbers noReading
-returns-2 c = sym (ap (λ (a : Decoded). readingResult (decodedNumbers a)) (c .before .answer2 .given .1))
+unfolding readingResult telemetryNumbers noReading
+returns-2 c = sym (ap (λ (a : TelemetryAnswer). readingResult (telemetryNumbers a)) (c .before .answer2 .given .1))
 
 pub reading-result-spec : {M : Type 1} → statement M
 reading-result-spec = tie.close (tie.spec enum-known-answer enum-known-answer-2 returns returns-2)

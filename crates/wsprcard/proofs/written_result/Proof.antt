@@ -1,7 +1,7 @@
 -- `wsprcard::written_result` meets its contract, case by case.
 -- Assumes nothing.
 use mathlib.Core.Path.{sym, ap}
-use Rattle.frame.specs.Answer.{writtenRefusal}
+use Rattle.frame.specs.Answer.{writeNumbers}
 use Rattle.wsprcard.specs.Results.{writtenResult}
 use borrow.Author.Needs.{needs}
 use Rattle.wsprcard.proofs.written_result.Statement.{statement}
@@ -14,11 +14,11 @@ enum-known-answer : tie.Need-enum-known-answer
 enum-known-answer c = search needs
 
 returns : tie.Need-returns
-unfolding writtenResult writtenRefusal
+unfolding writtenResult writeNumbers
 returns c = sym (ap writtenResult (c .enum-told .given .1))
 
 returns-2 : tie.Need-returns-2
-unfolding writtenResult writtenRefusal
+unfolding writtenResult writeNumbers
 returns-2 c = sym (ap writtenResult (c .before .answer .given .1))
 
 pub written-result-spec : {M : Type 1} → statement M

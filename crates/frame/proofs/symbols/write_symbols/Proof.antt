@@ -10,8 +10,8 @@ use borrow.Author.Needs.{needs}
 use Rattle.basics.proofs.Filling.{Filling, fill-starts, fill-turn, fill-ends}
 use Rattle.convolution.specs.Code.{codedBits}
 use Rattle.convolution.proofs.CodeLaws.{codedBits-below}
-use Rattle.interleaver.specs.Places.{orderOf}
-use Rattle.interleaver.proofs.PlaceLaws.{orderOf-below, getD-order}
+use Rattle.interleaver.specs.Places.{indexAt}
+use Rattle.interleaver.proofs.PlaceLaws.{indexAt-below, getD-indexes}
 use Rattle.frame.specs.Symbols.{symbolAt, frameOf}
 use Rattle.frame.proofs.SymbolLaws.{sync-read, sync-below, length-frameOf, getD-frameOf}
 use Rattle.frame.proofs.symbols.write_symbols.Statement.{statement}
@@ -23,20 +23,20 @@ Inv-loop word frame₀ coded order sync place₀ frame place = Filling (frameOf 
 abbrev μ-loop : tie.MeasureT-loop
 μ-loop word frame₀ coded order sync place₀ frame place = 162 - place
 
--- What is read of the order is the index of the place's coded bit; what is read there is the bit; the sum with the sync bit is the symbol.
-index : (c : tie.In-loop Inv-loop μ-loop) → getD (c .before .before .before .order .result) (c .before .loop .place) 0 ≡ orderOf (c .before .loop .place)
+-- What is read of the indexes is the index of the place's coded bit; what is read there is the bit; the sum with the sync bit is the symbol.
+index : (c : tie.In-loop Inv-loop μ-loop) → getD (c .before .before .before .indexes .result) (c .before .loop .place) 0 ≡ indexAt (c .before .loop .place)
 index c =
     let place = c .before .loop .place in
-    ap (λ (table : List ℕ). getD table place 0) (c .before .before .before .order .ensures) ∙ getD-order place (omega arith)
+    ap (λ (table : List ℕ). getD table place 0) (c .before .before .before .indexes .ensures) ∙ getD-indexes place (omega arith)
 
 bit : (c : tie.In-loop Inv-loop μ-loop)
-    → getD (c .before .before .before .before .encode .result) (getD (c .before .before .before .order .result) (c .before .loop .place) 0) 0
-    ≡ getD (codedBits (c .before .before .before .before .before .before .args .word)) (orderOf (c .before .loop .place)) 0
+    → getD (c .before .before .before .before .encode .result) (getD (c .before .before .before .indexes .result) (c .before .loop .place) 0) 0
+    ≡ getD (codedBits (c .before .before .before .before .before .before .args .word)) (indexAt (c .before .loop .place)) 0
 bit c = rw (index c, c .before .before .before .before .encode .ensures)
 
 written : (c : tie.In-loop Inv-loop μ-loop)
     → getD (c .before .before .sync-vector .result) (c .before .loop .place) 0
-    + 2 * getD (c .before .before .before .before .encode .result) (getD (c .before .before .before .order .result) (c .before .loop .place) 0) 0
+    + 2 * getD (c .before .before .before .before .encode .result) (getD (c .before .before .before .indexes .result) (c .before .loop .place) 0) 0
     ≡ getD (frameOf (c .before .before .before .before .before .before .args .word)) (c .before .loop .place) 0
 unfolding symbolAt
 written c =
@@ -46,8 +46,8 @@ written c =
 encode-requires : tie.Need-encode-requires Inv-loop μ-loop
 encode-requires c κs = search needs
 
-order-requires : tie.Need-order-requires Inv-loop μ-loop
-order-requires c κs = search needs
+indexes-requires : tie.Need-indexes-requires Inv-loop μ-loop
+indexes-requires c κs = search needs
 
 sync-vector-requires : tie.Need-sync-vector-requires Inv-loop μ-loop
 sync-vector-requires c κs = search needs
@@ -64,20 +64,20 @@ array-read-frame-2 : tie.Need-array-read-frame-2 Inv-loop μ-loop
 array-read-frame-2 c = omega arith
 
 cast-frame : tie.Need-cast-frame Inv-loop μ-loop
-cast-frame c = omega (arith, index c, orderOf-below (c .before .loop .place) (omega arith))
+cast-frame c = omega (arith, index c, indexAt-below (c .before .loop .place) (omega arith))
 
 array-read-frame-3 : tie.Need-array-read-frame-3 Inv-loop μ-loop
-array-read-frame-3 c = rw (index c) (orderOf-below (c .before .loop .place) (omega arith))
+array-read-frame-3 c = rw (index c) (indexAt-below (c .before .loop .place) (omega arith))
 
 mul-frame : tie.Need-mul-frame Inv-loop μ-loop
 mul-frame c =
-    omega (arith, bit c, codedBits-below (c .before .before .before .before .before .before .args .word) (orderOf (c .before .loop .place)))
+    omega (arith, bit c, codedBits-below (c .before .before .before .before .before .before .args .word) (indexAt (c .before .loop .place)))
 
 add-frame : tie.Need-add-frame Inv-loop μ-loop
 add-frame c =
     let l = c .before in
     let word = l .before .before .before .before .before .args .word in
-    omega (arith, bit c, codedBits-below word (orderOf (l .loop .place)), sync-read (c .before .loop .place) (c .before .before .sync-vector .ensures), sync-below (l .loop .place))
+    omega (arith, bit c, codedBits-below word (indexAt (l .loop .place)), sync-read (c .before .loop .place) (c .before .before .sync-vector .ensures), sync-below (l .loop .place))
 
 slice-write-frame : tie.Need-slice-write-frame Inv-loop μ-loop
 slice-write-frame c =
@@ -114,7 +114,7 @@ write-symbols-spec =
     Inv-loop
     μ-loop
     encode-requires
-    order-requires
+    indexes-requires
     sync-vector-requires
     loop-holds
     array-read-frame

@@ -12,37 +12,37 @@ use Rattle.repair.proofs.cost.step_cost.Tie as tie
 first-coded-requires : tie.Need-first-coded-requires
 first-coded-requires c κs = search needs
 
-mul-unlike : tie.Need-mul-unlike
-mul-unlike c = search needs
+mul-difference : tie.Need-mul-difference
+mul-difference c = search needs
 
-element-copy-out-unlike : tie.Need-element-copy-out-unlike
-element-copy-out-unlike c = search needs
+element-copy-out-difference : tie.Need-element-copy-out-difference
+element-copy-out-difference c = search needs
 
-unlike-requires : tie.Need-unlike-requires
-unlike-requires c κs = search needs
+difference-requires : tie.Need-difference-requires
+difference-requires c κs = search needs
 
 second-coded-requires : tie.Need-second-coded-requires
 second-coded-requires c κs = search needs
 
-mul-unlike-2 : tie.Need-mul-unlike-2
-mul-unlike-2 c = search needs
+mul-difference-2 : tie.Need-mul-difference-2
+mul-difference-2 c = search needs
 
-add-unlike : tie.Need-add-unlike
-add-unlike c = search needs
+add-difference : tie.Need-add-difference
+add-difference c = search needs
 
-element-copy-out-unlike-2 : tie.Need-element-copy-out-unlike-2
-element-copy-out-unlike-2 c = search needs
+element-copy-out-difference-2 : tie.Need-element-copy-out-difference-2
+element-copy-out-difference-2 c = search needs
 
-unlike-requires-2 : tie.Need-unlike-requires-2
-unlike-requires-2 c κs = search needs
+difference-requires-2 : tie.Need-difference-requires-2
+difference-requires-2 c κs = search needs
 
 returns : tie.Need-returns
 returns c =
     let a = c .before .before .before .before .before .before .args in
     let received = a .received .now in
     rw (
-      c .unlike2 .ensures,
-      c .before .before .before .unlike .ensures,
+      c .difference2 .ensures,
+      c .before .before .before .difference .ensures,
       c .before .before .second-coded .ensures,
       c .before .before .before .before .before .first-coded .ensures,
     )
@@ -59,13 +59,13 @@ step-cost-spec =
     tie.close
     (tie.spec
     first-coded-requires
-    mul-unlike
-    element-copy-out-unlike
-    unlike-requires
+    mul-difference
+    element-copy-out-difference
+    difference-requires
     second-coded-requires
-    mul-unlike-2
-    add-unlike
-    element-copy-out-unlike-2
-    unlike-requires-2
+    mul-difference-2
+    add-difference
+    element-copy-out-difference-2
+    difference-requires-2
     add-result
     returns)

@@ -3,7 +3,7 @@
 use native.Mathlib.Omega.{arith}
 use borrow.Author.Needs.{needs}
 use Rattle.telemetry.specs.Codes.{altitudeCode}
-use Rattle.telemetry.specs.Numbers.{positionRadices, positionDigits, positionNumber}
+use Rattle.telemetry.specs.Payload.{positionRadices, positionDigits, positionNumber}
 use Rattle.telemetry.proofs.RangeLaws.{in-range}
 use Rattle.telemetry.proofs.NumberLaws.{position-digits, position-count}
 use Rattle.telemetry.proofs.codes.position_number.Statement.{statement}

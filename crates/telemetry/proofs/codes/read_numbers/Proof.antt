@@ -3,7 +3,7 @@
 use mathlib.Core.Path.{sym, ap, _∙_}
 use native.Mathlib.Omega.{arith}
 use borrow.Author.Needs.{needs}
-use Rattle.telemetry.specs.declared.Decoded.{Decoded}
+use Rattle.telemetry.specs.declared.TelemetryAnswer.{TelemetryAnswer}
 use Rattle.telemetry.proofs.AnswerLaws.{numbers-extended, numbers-position, numbers-sensors, numbers-reading}
 use Rattle.telemetry.proofs.codes.read_numbers.Statement.{statement}
 use Rattle.telemetry.proofs.codes.read_numbers.Tie as tie
@@ -30,7 +30,7 @@ returns-4 c =
     let i = c .before in
     let j = i .before .before in
     let k = j .before .before in
-    ap Decoded.Telemetry (c .reading-of .ensures)
+    ap TelemetryAnswer.Telemetry (c .reading-of .ensures)
     ∙ sym (numbers-reading (k .before .before .args .numbers) (k .if1 .left) (omega (arith, j .if2 .left)) (omega (arith, i .if3 .left)))
 
 pub read-numbers-spec : {M : Type 1} → statement M

@@ -13,7 +13,7 @@ use borrow.Author.Needs.{needs}
 use Rattle.radix.specs.Numeral.{Digits, digitsOf}
 use Rattle.radix.proofs.Laws.{digits-in-range}
 use Rattle.telemetry.specs.Codes.{metres, degrees, millivolts, knots}
-use Rattle.telemetry.specs.Numbers.{positionRadices, sensorRadices, readingFrom, readingOf}
+use Rattle.telemetry.specs.Payload.{positionRadices, sensorRadices, readingFrom, readingOf}
 use Rattle.telemetry.specs.declared.Reading.{Reading}
 use Rattle.telemetry.proofs.CodeLaws.{degrees-fits}
 use Rattle.telemetry.proofs.NumberLaws.{position-positive, sensor-positive}

@@ -8,7 +8,7 @@ use Rattle.telemetry.specs.Codes.{temperatureCode, speedCode}
 use Rattle.telemetry.proofs.RangeLaws.{InRange, in-range}
 use native.Mathlib.Omega.{arith}
 use borrow.Author.Needs.{needs}
-use Rattle.telemetry.specs.Numbers.{sensorRadices, sensorDigits, sensorNumber}
+use Rattle.telemetry.specs.Payload.{sensorRadices, sensorDigits, sensorNumber}
 use Rattle.telemetry.proofs.NumberLaws.{sensor-digits, sensor-count}
 use Rattle.telemetry.proofs.codes.sensor_number.Statement.{statement}
 use Rattle.telemetry.proofs.codes.sensor_number.Tie as tie

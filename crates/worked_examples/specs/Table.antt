@@ -6,11 +6,11 @@ use mathlib.Core.List.{List, [], _∷_}
 use lib.IntN.{pos, negℤ}
 use Rattle.basics.specs.Ascii.{bytes}
 use Rattle.message.specs.Word.{callsignNumber, locatorNumber, lowerNumber}
-use Rattle.message.specs.Answer.{givenNumbers}
+use Rattle.message.specs.Answer.{messageNumbers}
 use Rattle.telemetry.specs.Codes.{altitudeCode, voltageCode, millivolts}
-use Rattle.telemetry.specs.Numbers.{positionNumber, sensorNumber}
+use Rattle.telemetry.specs.Payload.{positionNumber, sensorNumber}
 use Rattle.u4b.specs.Characters.{callsignWith, locatorWith, powerWith, lowerOf}
-use Rattle.telemetry.specs.Answer.{measuredAnswer, callsignFrom, locatorFrom, decoded, decodedNumbers}
+use Rattle.telemetry.specs.Answer.{measuredMessage, measuredCallsign, measuredLocator, telemetryRead, telemetryNumbers}
 use Rattle.telemetry.specs.declared.Measured.{Measured}
 
 -- A row: the numbers that the definitions give, and those that the sheet states.
@@ -47,17 +47,17 @@ measuredAt altitude = record {
 -- A row of a refusal of what is measured.
 unfoldable pub writeRefused : Measured → ℕ → ℕ → Row
 writeRefused m statedNumber statedPlace =
-    let n = givenNumbers (measuredAnswer m) in
+    let n = messageNumbers (measuredMessage m) in
     refused (n .number) (n .place) statedNumber statedPlace
 
 -- A row of a refusal of a message.
 unfoldable pub readRefused : String → String → ℕ → ℕ → ℕ → Row
 readRefused callsign locator power statedNumber statedPlace =
-    let n = decodedNumbers (decoded (bytes callsign) (bytes locator) power) in
+    let n = telemetryNumbers (telemetryRead (bytes callsign) (bytes locator) power) in
     refused (n .number) (n .place) statedNumber statedPlace
 
-unfoldable pub benchSheet : List Row
-benchSheet =
+unfoldable pub examples : List Row
+examples =
     -- '" K1ABC" gives N 259,047,992; FN20 gives M1 22,990; with 37 dBm M is 2,942,821.'
     number (callsignNumber (bytes " K1ABC")) 259_047_992
     ∷ number (locatorNumber (bytes "FN20")) 22_990
@@ -69,9 +69,9 @@ benchSheet =
     -- 'channel Q2, SK, 12,340 m, -150, 4,100 mV, 300 tenths, GPS 1 gives A 472,673, B 235,599, QQ2XFT GP99 60.'
     ∷ number (positionNumber (measuredAt 12_340)) 472_673
     ∷ number (sensorNumber (measuredAt 12_340)) 235_599
-    ∷ text (callsignFrom (measuredAt 12_340)) "QQ2XFT"
-    ∷ text (locatorFrom (measuredAt 12_340)) "GP99"
-    ∷ number (givenNumbers (measuredAnswer (measuredAt 12_340)) .power) 60
+    ∷ text (measuredCallsign (measuredAt 12_340)) "QQ2XFT"
+    ∷ text (measuredLocator (measuredAt 12_340)) "GP99"
+    ∷ number (messageNumbers (measuredMessage (measuredAt 12_340)) .power) 60
     -- 'A 615,167 with channel 0, 0 is 0Z0AAH. 0Z0AAI is refused 12.' In ASCII, 0 is 48. RM31 33 has an odd B in its range.
     ∷ text (callsignWith 48 48 615_167) "0Z0AAH"
     ∷ readRefused "0Z0AAI" "RM31" 33 12 0

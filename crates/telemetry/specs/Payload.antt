@@ -4,7 +4,7 @@ use mathlib.Core.List.{List, [], _∷_}
 use lib.ListN.{getD}
 use Rattle.radix.specs.Numeral.{numberOf, digitsOf}
 use Rattle.telemetry.specs.Codes.{altitudeCode, temperatureCode, voltageCode, speedCode, metres, degrees, millivolts, knots}
-use Rattle.u4b.specs.declared.Numbers.{Numbers}
+use Rattle.u4b.specs.declared.Payload.{Payload}
 use Rattle.telemetry.specs.declared.Measured.{Measured}
 use Rattle.telemetry.specs.declared.Reading.{Reading}
 
@@ -36,8 +36,8 @@ sensorNumber m = numberOf sensorRadices (sensorDigits m)
 
 -- ---- The channel's characters and both numbers
 
-unfoldable pub numbersFrom : Measured → Numbers
-numbersFrom m = record { first = m .first; third = m .third; upper = positionNumber m; lower = sensorNumber m }
+unfoldable pub payloadFrom : Measured → Payload
+payloadFrom m = record { first = m .first; third = m .third; upper = positionNumber m; lower = sensorNumber m }
 
 -- ---- Back
 
