@@ -1,5 +1,5 @@
 -- Laws of `cond` and of tests, for definitions that test and refuse in turn and answer last.
-use mathlib.Core.Path.{_≡_, refl}
+use mathlib.Core.Path.{_≡_, refl, ap}
 use Prim.Native.Nat.{ℕ, _≤_, _<_}
 use mathlib.Core.Bool.{Bool, true, false, true≢false, false≢true, cond, _&&_, _||_}
 use lib.Dec.{eqb, leb, ltb}
@@ -66,3 +66,9 @@ module _ {A : Type 0} (m n : ℕ) where
 
   pub equal-or-not : (m ≡ n → A) → ((m ≡ n → ⊥) → A) → A
   equal-or-not f g = by-test (eqb m n) (λ e. f (eqb-true m n e)) (λ e. g (eqb-false m n e))
+
+-- ---- Answers
+
+-- An equation of an answer, and that of what is made of it.
+pub also : {A B : Type 0} {a b : A} (f : A → B) → a ≡ b → (a ≡ b) × (f a ≡ f b)
+also f e = (e, ap f e)

@@ -21,7 +21,7 @@ use Rattle.convolution.specs.Code.{codedBits}
 use Rattle.convolution.specs.Decoding.{decodedWord}
 use Rattle.convolution.proofs.DecodingLaws.{decodedWord-below}
 use Rattle.frame.specs.Symbols.{frameOf, receivedBits}
-use Rattle.frame.specs.Answer.{wordWritten, writtenAs, messageWritten, frameAfter, frameAfterWord, frameAfterMessage, firstLarge, firstWrongSync, wordOfData, wordRead, messageIfWord, messageRead, writeNumbers, refusalOf}
+use Rattle.frame.specs.Answer.{wordWritten, writtenAs, messageWritten, frameAfter, frameAfterWord, frameAfterMessage, firstLarge, firstWrongSync, wordOfData, wordRead, messageIfWord, messageRead, writeNumbers}
 use Rattle.frame.specs.RoundTrip.{RightForm}
 use Rattle.frame.specs.declared.WriteAnswer.{WriteAnswer}
 use Rattle.frame.proofs.SymbolLaws.{received-frameOf, decoded-frameOf, frame-right-form, frame-by-data, form-of-tests, none-large, none-wrong}
@@ -149,8 +149,8 @@ module _ (frame : List ℕ) where
 
 -- Refusals with different numbers differ.
 other-number : (m n p q : ℕ) → (m ≡ n → ⊥) → WordAnswer.Refused (refusal m p) ≡ WordAnswer.Refused (refusal n q) → ⊥
-unfolding refusalOf
-other-number m n p q other e = other (ap (λ (a : WordAnswer). refusalOf a .number) e)
+unfolding wordNumbers
+other-number m n p q other e = other (ap (λ (a : WordAnswer). wordNumbers a .number) e)
 
 -- A frame that is refused 9 has the right form.
 pub form-of-none : (frame : List ℕ) → wordRead frame ≡ WordAnswer.Refused (refusal noWord 0) → RightForm frame

@@ -9,9 +9,9 @@ use Rattle.basics.proofs.Choice.{cond-passed, by-test}
 use Rattle.basics.proofs.ListLaws.{sameList-equal}
 use Rattle.refusal.specs.declared.Refusal.{Refusal}
 use Rattle.refusal.specs.Refusals.{refusal, noWord}
-use Rattle.message.specs.Answer.{rightLengths, packed, unpacked, callsignAfterUnpack, locatorAfterUnpack, contentAfter, wordNumbers}
+use Rattle.message.specs.Answer.{rightLengths, packed, unpacked, callsignAfterUnpack, locatorAfterUnpack, contentAfter, wordNumbers, messageNumbers}
 use Rattle.message.specs.Word.{wordOf, callsignOf, locatorOf}
-use Rattle.message.specs.RoundTrip.{MessageRefused}
+use Rattle.message.specs.RoundTrip.{WordRefused, MessageRefused}
 use Rattle.message.specs.declared.WordAnswer.{WordAnswer}
 use Rattle.message.specs.declared.MessageAnswer.{MessageAnswer}
 use Rattle.message.proofs.AnswerLaws.{right-lengths, unpacked-read, refused-no-power}
@@ -19,8 +19,8 @@ use Rattle.message.proofs.RoundTripLaws.{unpack-pack, pack-unpack}
 use Rattle.convolution.specs.Decoding.{decodedWord}
 use Rattle.convolution.proofs.DecodingLaws.{decodedWord-below}
 use Rattle.frame.specs.Symbols.{frameOf, receivedBits}
-use Rattle.frame.specs.Answer.{wordWritten, messageWritten, frameAfter, frameAfterWord, frameAfterMessage, wordOfData, wordRead, messageIfWord, callsignIfWord, locatorIfWord, messageRead, callsignAfterRead, locatorAfterRead}
-use Rattle.frame.specs.RoundTrip.{WordReadsBack, WordWritesAs, WordWritesBack, NeverFromWord, WordRefused, WordRefusedExactly, RightForm, NoWord, NoWordRefused, ReadsAsMessage, MessageReadsBack, MessageWritesAs, MessageWritesBack, NeverFromMessage, MessageRefusedExactly}
+use Rattle.frame.specs.Answer.{wordWritten, messageWritten, frameAfter, frameAfterWord, frameAfterMessage, wordOfData, wordRead, messageIfWord, callsignIfWord, locatorIfWord, messageRead, callsignAfterRead, locatorAfterRead, writeNumbers}
+use Rattle.frame.specs.RoundTrip.{WordReadsBack, WordWritesAs, WordWritesBack, NeverFromWord, WordRefusedExactly, RightForm, NoWord, NoWordRefused, ReadsAsMessage, MessageReadsBack, MessageWritesAs, MessageWritesBack, NeverFromMessage, MessageRefusedExactly}
 use Rattle.frame.specs.declared.WriteAnswer.{WriteAnswer}
 use Rattle.frame.proofs.SymbolLaws.{length-frameOf, frameOf-injective}
 use Rattle.frame.proofs.AnswerLaws.{written-done, done-of-word, after-word-done, message-done, done-of-message, after-message-done, word-of-read, form-of-none, read-none, read-frameOf, read-form}
@@ -159,11 +159,13 @@ message-refused-exactly frame c l six four = (never, λ none. exact (messageRead
 module _ (frame : List ℕ) (word : ℕ) where
   abbrev pub WriteWordPromised : WriteAnswer → List ℕ → Type 0
   WriteWordPromised answer content =
-      (answer ≡ wordWritten frame word) × ((content ≡ frameAfterWord frame word) × WordReadsBack answer word content)
+      (answer ≡ wordWritten frame word)
+      × ((writeNumbers answer ≡ writeNumbers (wordWritten frame word))
+      × ((content ≡ frameAfterWord frame word) × WordReadsBack answer word content))
 
   pub write-word-promised : (answer : WriteAnswer) (content : List ℕ) → answer ≡ wordWritten frame word → content ≡ frameAfterWord frame word
       → WriteWordPromised answer content
-  write-word-promised answer content e e₂ = (e, (e₂, rw (e, e₂) (word-reads-back frame word)))
+  write-word-promised answer content e e₂ = (e, (ap writeNumbers e, (e₂, rw (e, e₂) (word-reads-back frame word))))
 
   pub write-word-refused : (f : Refusal) → wordWritten frame word ≡ WriteAnswer.Refused f → WriteWordPromised (WriteAnswer.Refused f) frame
   unfolding frameAfterWord frameAfter
@@ -173,11 +175,12 @@ module _ (callsign locator : List ℕ) (power : ℕ) (frame : List ℕ) where
   abbrev pub WriteMessagePromised : WriteAnswer → List ℕ → Type 0
   WriteMessagePromised answer content =
       (answer ≡ messageWritten callsign locator power frame)
-      × ((content ≡ frameAfterMessage callsign locator power frame) × MessageReadsBack answer callsign locator power content)
+      × ((writeNumbers answer ≡ writeNumbers (messageWritten callsign locator power frame))
+      × ((content ≡ frameAfterMessage callsign locator power frame) × MessageReadsBack answer callsign locator power content))
 
   pub write-message-promised : (answer : WriteAnswer) (content : List ℕ) → answer ≡ messageWritten callsign locator power frame
       → content ≡ frameAfterMessage callsign locator power frame → WriteMessagePromised answer content
-  write-message-promised answer content e e₂ = (e, (e₂, rw (e, e₂) (message-reads-back callsign locator power frame)))
+  write-message-promised answer content e e₂ = (e, (ap writeNumbers e, (e₂, rw (e, e₂) (message-reads-back callsign locator power frame))))
 
   pub write-message-refused : (f : Refusal) → messageWritten callsign locator power frame ≡ WriteAnswer.Refused f
       → WriteMessagePromised (WriteAnswer.Refused f) frame
@@ -187,19 +190,22 @@ module _ (callsign locator : List ℕ) (power : ℕ) (frame : List ℕ) where
 module _ (frame : List ℕ) where
   abbrev pub ReadWordPromised : WordAnswer → Type 0
   ReadWordPromised answer =
-      (answer ≡ wordRead frame) × (WordWritesBack answer frame × (WordRefusedExactly answer frame × NoWordRefused answer frame))
+      (answer ≡ wordRead frame)
+      × ((wordNumbers answer ≡ wordNumbers (wordRead frame))
+      × (WordWritesBack answer frame × (WordRefusedExactly answer frame × NoWordRefused answer frame)))
 
   pub read-word-promised : (answer : WordAnswer) → wordRead frame ≡ answer → ReadWordPromised answer
   read-word-promised answer e =
-      subst ReadWordPromised e (refl, (word-writes-back frame, (word-refused-exactly frame, no-word-refused frame)))
+      subst ReadWordPromised e (refl, (refl, (word-writes-back frame, (word-refused-exactly frame, no-word-refused frame))))
 
 module _ (frame callsign locator : List ℕ) where
   abbrev pub ReadMessagePromised : MessageAnswer → List ℕ → List ℕ → Type 0
   ReadMessagePromised answer its-callsign its-locator =
       (answer ≡ messageRead frame callsign locator)
+      × ((messageNumbers answer ≡ messageNumbers (messageRead frame callsign locator))
       × ((its-callsign ≡ callsignAfterRead frame callsign locator)
       × ((its-locator ≡ locatorAfterRead frame callsign locator)
-      × (MessageWritesBack answer frame its-callsign its-locator × MessageRefusedExactly answer frame callsign locator)))
+      × (MessageWritesBack answer frame its-callsign its-locator × MessageRefusedExactly answer frame callsign locator))))
 
   read-message-promised : (answer : MessageAnswer) (its-callsign its-locator : List ℕ) → answer ≡ messageRead frame callsign locator
       → its-callsign ≡ callsignAfterRead frame callsign locator → its-locator ≡ locatorAfterRead frame callsign locator
@@ -207,7 +213,7 @@ module _ (frame callsign locator : List ℕ) where
   read-message-promised answer its-callsign its-locator e e₂ e₃ =
       let back : MessageWritesBack answer frame its-callsign its-locator = rw (e, e₂, e₃) (message-writes-back frame callsign locator) in
       let exactly : MessageRefusedExactly answer frame callsign locator = rw e (message-refused-exactly frame callsign locator) in
-      (e, (e₂, (e₃, (back, exactly))))
+      (e, (ap messageNumbers e, (e₂, (e₃, (back, exactly)))))
 
   -- The first refusal is the one returned.
   pub read-message-refused : (f : Refusal) → wordRead frame ≡ WordAnswer.Refused f → ReadMessagePromised (MessageAnswer.Refused f) callsign locator

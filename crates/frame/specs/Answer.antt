@@ -5,9 +5,9 @@ use mathlib.Core.List.{List}
 use lib.Dec.{eqb, leb, ltb}
 use lib.ListN.{length}
 use Rattle.basics.specs.Lists.{firstFailing, sameList}
-use Rattle.refusal.specs.Refusals.{refusal, wrongLength, wordTooLarge, symbolTooLarge, wrongSync, noWord}
+use Rattle.refusal.specs.Refusals.{refusal, success, wrongLength, wordTooLarge, symbolTooLarge, wrongSync, noWord}
 use Rattle.refusal.specs.declared.Refusal.{Refusal}
-use Rattle.message.specs.Answer.{packed, unpacked, callsignAfterUnpack, locatorAfterUnpack}
+use Rattle.message.specs.Answer.{packed, unpacked, callsignAfterUnpack, locatorAfterUnpack, wordNumbers}
 use Rattle.message.specs.Word.{wordOf}
 use Rattle.message.specs.declared.WordAnswer.{WordAnswer}
 use Rattle.message.specs.declared.MessageAnswer.{MessageAnswer}
@@ -59,7 +59,8 @@ firstLarge frame = firstFailing small 0 frame
 unfoldable pub firstWrongSync : List ℕ → ℕ
 firstWrongSync frame = firstFailing synced 0 frame
 
--- "no 50-bit word has this frame": only one word may have it, the one that its data bits determine.
+-- "no 50-bit word has this frame": only one word may have it, the one that its data bits determine. That 9 is given exactly where no word
+-- has the frame is `NoWordRefused` (RoundTrip.antt), which `read_word` promises; so the decoding needs no belief.
 unfoldable pub wordOfData : List ℕ → WordAnswer
 wordOfData frame =
     let word = decodedWord (receivedBits frame) in
@@ -98,10 +99,11 @@ locatorAfterRead frame callsign locator = locatorIfWord (wordRead frame) callsig
 
 -- ---- The result numbers of each answer: 0 where it has none
 
+-- Refusal number and place
 unfoldable pub writeNumbers : WriteAnswer → Refusal
-writeNumbers WriteAnswer.Done = refusal 0 0
+writeNumbers WriteAnswer.Done = success
 writeNumbers (WriteAnswer.Refused f) = f
 
+-- Those of an answer to the word, without the word.
 unfoldable pub refusalOf : WordAnswer → Refusal
-refusalOf (WordAnswer.Word w) = refusal 0 0
-refusalOf (WordAnswer.Refused f) = f
+refusalOf answer = refusal (wordNumbers answer .number) (wordNumbers answer .place)

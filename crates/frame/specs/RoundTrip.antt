@@ -7,7 +7,7 @@ use mathlib.Core.List.{List}
 use lib.ListN.{length, getD}
 use Rattle.refusal.specs.Refusals.{noWord}
 use Rattle.message.specs.Answer.{wordNumbers}
-use Rattle.message.specs.RoundTrip.{MessageRefused}
+use Rattle.message.specs.RoundTrip.{WordRefused, MessageRefused}
 use Rattle.message.specs.declared.MessageAnswer.{MessageAnswer}
 use Rattle.frame.specs.Symbols.{syncAt, frameOf, RightSymbols}
 use Rattle.frame.specs.Answer.{wordWritten, messageWritten, frameAfterWord, frameAfterMessage, wordRead, messageRead, callsignAfterRead, locatorAfterRead}
@@ -39,11 +39,6 @@ WordWritesBack (WordAnswer.Refused f) frame = Unit
 -- Writing from a word never makes this frame.
 abbrev pub NeverFromWord : List ℕ → Type 0
 NeverFromWord frame = (before : List ℕ) (word : ℕ) → wordWritten before word ≡ WriteAnswer.Done → frameAfterWord before word ≡ frame → ⊥
-
--- The answer is a refusal.
-abbrev pub WordRefused : WordAnswer → Type 0
-WordRefused (WordAnswer.Word w) = ⊥
-WordRefused (WordAnswer.Refused f) = Unit
 
 -- The answer is a refusal exactly where writing from a word never makes the frame.
 abbrev pub WordRefusedExactly : WordAnswer → List ℕ → Type 0
@@ -96,4 +91,4 @@ NeverFromMessage frame =
 -- frame.
 abbrev pub MessageRefusedExactly : MessageAnswer → List ℕ → List ℕ → List ℕ → Type 0
 MessageRefusedExactly answer frame callsign locator =
-    length callsign ≡ 6 → length locator ≡ 4 → MessageRefused answer ↔ NeverFromMessage frame
+    length callsign ≡ 6 → length locator ≡ 4 → (MessageRefused answer ↔ NeverFromMessage frame)

@@ -3,7 +3,8 @@ pub mod symbols;
 mod sync;
 
 ghost use mathlib.Core.Path.{_≡_};
-ghost use Rattle.frame.specs.Answer.{wordWritten, messageWritten, frameAfterWord, frameAfterMessage, wordRead, refusalOf, messageRead, callsignAfterRead, locatorAfterRead};
+ghost use Rattle.message.specs.Answer.{wordNumbers, messageNumbers};
+ghost use Rattle.frame.specs.Answer.{wordWritten, messageWritten, frameAfterWord, frameAfterMessage, wordRead, refusalOf, messageRead, callsignAfterRead, locatorAfterRead, writeNumbers};
 ghost use Rattle.frame.specs.RoundTrip.{WordReadsBack, WordWritesBack, WordRefusedExactly, NoWordRefused, MessageReadsBack, MessageWritesBack, MessageRefusedExactly};
 use message::MessageAnswer;
 use message::WordAnswer;
@@ -22,6 +23,7 @@ pub enum WriteAnswer {
 // Writes the frame of a word.
 pub fn write_word(word: u64, frame: &mut [u8]) -> WriteAnswer
     ensures answer { λ r. ⌜ r ≡ wordWritten (now (frame .entry)) word ⌝ }
+    ensures numbers { λ r. ⌜ writeNumbers r ≡ writeNumbers (wordWritten (now (frame .entry)) word) ⌝ }
     ensures frame_after { λ _. ⌜ now (frame .exit) ≡ frameAfterWord (now (frame .entry)) word ⌝ }
     ensures reads_back { λ r. ⌜ WordReadsBack r word (now (frame .exit)) ⌝ }
 {
@@ -44,6 +46,7 @@ pub fn write_word(word: u64, frame: &mut [u8]) -> WriteAnswer
 // Writes the frame of a message.
 pub fn write_message(callsign: &[u8], locator: &[u8], power: u32, frame: &mut [u8]) -> WriteAnswer
     ensures answer { λ r. ⌜ r ≡ messageWritten (now (callsign .entry)) (now (locator .entry)) power (now (frame .entry)) ⌝ }
+    ensures numbers { λ r. ⌜ writeNumbers r ≡ writeNumbers (messageWritten (now (callsign .entry)) (now (locator .entry)) power (now (frame .entry))) ⌝ }
     ensures frame_after { λ _. ⌜ now (frame .exit) ≡ frameAfterMessage (now (callsign .entry)) (now (locator .entry)) power (now (frame .entry)) ⌝ }
     ensures reads_back { λ r. ⌜ MessageReadsBack r (now (callsign .entry)) (now (locator .entry)) power (now (frame .exit)) ⌝ }
 {
@@ -65,6 +68,7 @@ pub fn write_message(callsign: &[u8], locator: &[u8], power: u32, frame: &mut [u
 // The word of a frame.
 pub fn read_word(frame: &[u8]) -> WordAnswer
     ensures answer { λ r. ⌜ r ≡ wordRead (now (frame .entry)) ⌝ }
+    ensures numbers { λ r. ⌜ wordNumbers r ≡ wordNumbers (wordRead (now (frame .entry))) ⌝ }
     ensures writes_back { λ r. ⌜ WordWritesBack r (now (frame .entry)) ⌝ }
     ensures refuses_exactly { λ r. ⌜ WordRefusedExactly r (now (frame .entry)) ⌝ }
     ensures no_word { λ r. ⌜ NoWordRefused r (now (frame .entry)) ⌝ }
@@ -108,6 +112,7 @@ fn refusal_of(answer: WordAnswer) -> Refusal
 // The message of a frame: its callsign and locator are written, its power is the answer.
 pub fn read_message(frame: &[u8], callsign: &mut [u8], locator: &mut [u8]) -> MessageAnswer
     ensures answer { λ r. ⌜ r ≡ messageRead (now (frame .entry)) (now (callsign .entry)) (now (locator .entry)) ⌝ }
+    ensures numbers { λ r. ⌜ messageNumbers r ≡ messageNumbers (messageRead (now (frame .entry)) (now (callsign .entry)) (now (locator .entry))) ⌝ }
     ensures callsign_after { λ _. ⌜ now (callsign .exit) ≡ callsignAfterRead (now (frame .entry)) (now (callsign .entry)) (now (locator .entry)) ⌝ }
     ensures locator_after { λ _. ⌜ now (locator .exit) ≡ locatorAfterRead (now (frame .entry)) (now (callsign .entry)) (now (locator .entry)) ⌝ }
     ensures writes_back { λ r. ⌜ MessageWritesBack r (now (frame .entry)) (now (callsign .exit)) (now (locator .exit)) ⌝ }

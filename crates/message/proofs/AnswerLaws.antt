@@ -117,9 +117,9 @@ legal-of-packed callsign locator power word e = go (checked callsign locator pow
 -- ---- The cases of reading a word
 
 module _ (word : ℕ) where
-  pub wordAnswer-callsign : 262_177_560 ≤ callsignPart word → wordMessage word ≡ MessageAnswer.Refused (refusal wordTooLarge 0)
+  pub wordMessage-callsign : 262_177_560 ≤ callsignPart word → wordMessage word ≡ MessageAnswer.Refused (refusal wordTooLarge 0)
   unfolding wordMessage
-  wordAnswer-callsign h = rw (le-leb 262_177_560 _ h, or-true (leb (2 ^ 50) word))
+  wordMessage-callsign h = rw (le-leb 262_177_560 _ h, or-true (leb (2 ^ 50) word))
 
   module _ (callsign : callsignPart word < 262_177_560) where
     -- A word of 2^50 or more has a callsign number past the end.
@@ -127,28 +127,28 @@ module _ (word : ℕ) where
     unfolding callsignPart
     in-50-bits = omega arith
 
-    pub wordAnswer-locator : 32_400 ≤ locatorPart word → wordMessage word ≡ MessageAnswer.Refused (refusal badLocatorNumber 0)
+    pub wordMessage-locator : 32_400 ≤ locatorPart word → wordMessage word ≡ MessageAnswer.Refused (refusal badLocatorNumber 0)
     unfolding wordMessage
-    wordAnswer-locator h = rw (lt-leb (2 ^ 50) word in-50-bits, lt-leb 262_177_560 _ callsign, le-leb 32_400 _ h)
+    wordMessage-locator h = rw (lt-leb (2 ^ 50) word in-50-bits, lt-leb 262_177_560 _ callsign, le-leb 32_400 _ h)
 
     module _ (locator : locatorPart word < 32_400) where
       -- What is left is the power's test.
-      wordAnswer-past-locator : wordMessage word
+      wordMessage-past-locator : wordMessage word
           ≡ cond (ltb (powerPart word) 64 || not (legalPower (powerPart word - 64))) (MessageAnswer.Refused (refusal badPowerBits 0))
           (MessageAnswer.Power (powerPart word - 64))
       unfolding wordMessage
-      wordAnswer-past-locator = rw (lt-leb (2 ^ 50) word in-50-bits, lt-leb 262_177_560 _ callsign, lt-leb 32_400 _ locator)
+      wordMessage-past-locator = rw (lt-leb (2 ^ 50) word in-50-bits, lt-leb 262_177_560 _ callsign, lt-leb 32_400 _ locator)
 
-      pub wordAnswer-low : powerPart word < 64 → wordMessage word ≡ MessageAnswer.Refused (refusal badPowerBits 0)
-      wordAnswer-low h = wordAnswer-past-locator ∙ rw (lt-ltb _ 64 h)
+      pub wordMessage-low : powerPart word < 64 → wordMessage word ≡ MessageAnswer.Refused (refusal badPowerBits 0)
+      wordMessage-low h = wordMessage-past-locator ∙ rw (lt-ltb _ 64 h)
 
-      pub wordAnswer-illegal : 64 ≤ powerPart word → legalPower (powerPart word - 64) ≡ false
+      pub wordMessage-illegal : 64 ≤ powerPart word → legalPower (powerPart word - 64) ≡ false
           → wordMessage word ≡ MessageAnswer.Refused (refusal badPowerBits 0)
-      wordAnswer-illegal h e = wordAnswer-past-locator ∙ rw (le-ltb _ 64 h, e)
+      wordMessage-illegal h e = wordMessage-past-locator ∙ rw (le-ltb _ 64 h, e)
 
-      pub wordAnswer-power : 64 ≤ powerPart word → legalPower (powerPart word - 64) ≡ true
+      pub wordMessage-power : 64 ≤ powerPart word → legalPower (powerPart word - 64) ≡ true
           → wordMessage word ≡ MessageAnswer.Power (powerPart word - 64)
-      wordAnswer-power h e = wordAnswer-past-locator ∙ rw (le-ltb _ 64 h, e)
+      wordMessage-power h e = wordMessage-past-locator ∙ rw (le-ltb _ 64 h, e)
 
 -- What a word is that is read.
 pub record Readable (word power : ℕ) : Type 0 where

@@ -6,7 +6,7 @@ use native.Mathlib.Omega.{arith}
 use mathlib.Core.Bool.{true, cond}
 use mathlib.Core.List.{List, [], _∷_, _++_}
 use lib.Dec.{eqb, leb, ltb}
-use lib.ListN.{length, getD}
+use lib.ListN.{length, getD, List·getD-eq-default}
 use borrow.Author.Tests.{le-leb, lt-ltb, le-ltb, leb-true, ltb-true, eqb-true, ne-eqb}
 use Rattle.radix.specs.Numeral.{Digits}
 use Rattle.basics.proofs.Tables.{every-at, below-at}
@@ -83,13 +83,16 @@ sets = callsignSets ++ locatorSets
 abbrev none : CharacterSet
 none = record { lowest = 0; size = 0 }
 
--- The lowest value and the size of a place's set by the place, as a decision: one test of all ten places each.
+-- The lowest value and the size of a place's set by the place, as a decision: one test of all ten places each. Past them the lowest is 0.
 abbrev pub lowestBy : ℕ → ℕ
 lowestBy place = cond (ltb place 3) 0 (cond (ltb place 8) 10 0)
 
-pub lowest-by : (place : ℕ) → place < 10 → setAt place .lowest ≡ lowestBy place
+pub lowest-by : (place : ℕ) → setAt place .lowest ≡ lowestBy place
 unfolding setAt callsignSets locatorSets
-lowest-by place h = eqb-true _ _ (below-at (λ (p : ℕ). eqb (setAt p .lowest) (lowestBy p)) 10 refl place h)
+lowest-by place =
+    below-or-not place 10
+    (λ within. eqb-true _ _ (below-at (λ (p : ℕ). eqb (setAt p .lowest) (lowestBy p)) 10 refl place within))
+    (λ past. rw (List·getD-eq-default sets none past, le-ltb place 3 (omega arith), le-ltb place 8 (omega arith)))
 
 abbrev pub sizeBy : ℕ → ℕ
 sizeBy place =

@@ -8,13 +8,13 @@ use mathlib.Core.List.{List}
 use lib.ListN.{length}
 use Rattle.refusal.specs.declared.Refusal.{Refusal}
 use Rattle.message.specs.Word.{callsignNumber, locatorNumber, lowerNumber, wordFrom, wordOf, callsignPart, locatorPart, powerPart, callsignWithNumber, locatorWithNumber, callsignOf, locatorOf}
-use Rattle.message.specs.Answer.{rightLengths, packed, wordMessage, unpacked, contentAfter, callsignAfterUnpack, locatorAfterUnpack}
+use Rattle.message.specs.Answer.{rightLengths, packed, wordMessage, unpacked, contentAfter, callsignAfterUnpack, locatorAfterUnpack, messageNumbers}
 use Rattle.message.specs.RoundTrip.{UnpacksAs, PacksBack, MessageRefused, NeverPacked, UnpackRefusedExactly}
 use Rattle.message.specs.declared.WordAnswer.{WordAnswer}
 use Rattle.message.specs.declared.MessageAnswer.{MessageAnswer}
 use Rattle.power.proofs.Laws.{legal-power-end}
 use Rattle.message.proofs.WordLaws.{callsignNumber-below, callsignWithNumber-callsignNumber, callsignWithNumber-length, callsignWithNumber-legal, callsignNumber-callsignWithNumber, locatorNumber-below, locatorWithNumber-locatorNumber, locatorWithNumber-length, locatorWithNumber-legal, locatorNumber-locatorWithNumber, callsignPart-word, locatorPart-word, powerPart-word, word-below, word-of-parts}
-use Rattle.message.proofs.AnswerLaws.{right-lengths, checked-legal, packed-word, legal-whole, legal-of-packed, wordAnswer-power, readable, unpacked-read}
+use Rattle.message.proofs.AnswerLaws.{right-lengths, checked-legal, packed-word, legal-whole, legal-of-packed, wordMessage-power, readable, unpacked-read}
 
 -- ---- The round trips
 
@@ -37,7 +37,7 @@ unpack-pack callsign locator power word e =
     let same : powerPart w - 64 ≡ power = omega arith in
     rw (made .1) (record {
       in-50-bits = word-below n m1 power within end below;
-      its-power = wordAnswer-power w (omega arith) (omega arith) (omega arith) (rw same (l .power-legal)) ∙ ap MessageAnswer.Power same;
+      its-power = wordMessage-power w (omega arith) (omega arith) (omega arith) (rw same (l .power-legal)) ∙ ap MessageAnswer.Power same;
       its-callsign = rw its-n (callsignWithNumber-callsignNumber callsign (l .six) (l .callsign-legal));
       its-locator = rw its-m1 (locatorWithNumber-locatorNumber locator (l .four) (l .locator-legal));
     })
@@ -73,9 +73,10 @@ module _ (callsign locator : List ℕ) (word : ℕ) where
   abbrev pub Promised : MessageAnswer → List ℕ → List ℕ → Type 0
   Promised answer its-callsign its-locator =
       (answer ≡ unpacked callsign locator word)
+      × ((messageNumbers answer ≡ messageNumbers (unpacked callsign locator word))
       × ((its-callsign ≡ callsignAfterUnpack callsign locator word)
       × ((its-locator ≡ locatorAfterUnpack callsign locator word)
-      × (PacksBack answer word its-callsign its-locator × UnpackRefusedExactly answer word callsign locator)))
+      × (PacksBack answer word its-callsign its-locator × UnpackRefusedExactly answer word callsign locator))))
 
   -- With the lengths right the answer is the word's.
   exactly : UnpackRefusedExactly (unpacked callsign locator word) word callsign locator
@@ -83,11 +84,11 @@ module _ (callsign locator : List ℕ) (word : ℕ) where
 
   pub promised-refused : (f : Refusal) → unpacked callsign locator word ≡ MessageAnswer.Refused f → Promised (MessageAnswer.Refused f) callsign locator
   unfolding callsignAfterUnpack locatorAfterUnpack contentAfter
-  promised-refused f e = (sym e, (rw e, (rw e, (tt, rw e at exactly))))
+  promised-refused f e = (sym e, (ap messageNumbers (sym e), (rw e, (rw e, (tt, rw e at exactly)))))
 
   pub promised-power : (power : ℕ) → rightLengths (length callsign) (length locator) ≡ true → wordMessage word ≡ MessageAnswer.Power power
       → Promised (MessageAnswer.Power power) (callsignOf word) (locatorOf word)
   unfolding callsignAfterUnpack locatorAfterUnpack contentAfter
   promised-power power right read =
       let e = unpacked-read callsign locator word right ∙ read in
-      (sym e, (rw e, (rw e, (pack-unpack word power read, rw e at exactly))))
+      (sym e, (ap messageNumbers (sym e), (rw e, (rw e, (pack-unpack word power read, rw e at exactly)))))

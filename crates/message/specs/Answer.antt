@@ -4,7 +4,8 @@ use mathlib.Core.Bool.{Bool, cond, not, _&&_, _||_}
 use mathlib.Core.List.{List, _++_}
 use lib.Dec.{eqb, leb, ltb}
 use lib.ListN.{length}
-use Rattle.refusal.specs.Refusals.{refusal, wrongLength, badCharacter, badPower, wordTooLarge, badLocatorNumber, badPowerBits}
+use Rattle.refusal.specs.Refusals.{refusal, success, wrongLength, badCharacter, badPower, wordTooLarge, badLocatorNumber, badPowerBits}
+use Rattle.refusal.specs.declared.Refusal.{Refusal}
 use Rattle.message.specs.Character.{firstBad}
 use Rattle.power.specs.Powers.{legalPower}
 use Rattle.message.specs.Word.{wordOf, callsignPart, locatorPart, powerPart, callsignOf, locatorOf}
@@ -64,6 +65,11 @@ unfoldable pub locatorAfterUnpack : List ℕ → List ℕ → ℕ → List ℕ
 locatorAfterUnpack callsign locator word = contentAfter (unpacked callsign locator word) locator (locatorOf word)
 
 -- ---- The result numbers of each answer: 0 where it has none
+
+-- Refusal number and place
+unfoldable pub checkNumbers : CheckAnswer → Refusal
+checkNumbers CheckAnswer.Legal = success
+checkNumbers (CheckAnswer.Refused f) = f
 
 -- Refusal number, place, word
 pub record WordNumbers : Type 0 where

@@ -28,6 +28,10 @@ PacksBack (MessageAnswer.Power p) word callsign locator = packed callsign locato
 PacksBack (MessageAnswer.Refused f) word callsign locator = Unit
 
 -- The answer is a refusal.
+abbrev pub WordRefused : WordAnswer → Type 0
+WordRefused (WordAnswer.Word w) = ⊥
+WordRefused (WordAnswer.Refused f) = Unit
+
 abbrev pub MessageRefused : MessageAnswer → Type 0
 MessageRefused (MessageAnswer.Power p) = ⊥
 MessageRefused (MessageAnswer.Refused f) = Unit
@@ -39,4 +43,4 @@ NeverPacked word = (callsign locator : List ℕ) (power : ℕ) → packed callsi
 
 -- With a callsign of six bytes and a locator of four lent, the answer is a refusal exactly where no message has the word.
 abbrev pub UnpackRefusedExactly : MessageAnswer → ℕ → List ℕ → List ℕ → Type 0
-UnpackRefusedExactly answer word callsign locator = length callsign ≡ 6 → length locator ≡ 4 → MessageRefused answer ↔ NeverPacked word
+UnpackRefusedExactly answer word callsign locator = length callsign ≡ 6 → length locator ≡ 4 → (MessageRefused answer ↔ NeverPacked word)

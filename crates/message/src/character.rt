@@ -30,10 +30,10 @@ fn character_of(value: u64) -> u8
     }
 }
 
-// The characters of a place's set have the values from its lowest on, as many as its size. These are
-// decisions and no tables, as a table that is read entry by entry is made anew for each.
+// The lowest value of a place's set: its characters have the values from there on, as many as its
+// size. Both are decisions, and no tables: a table in a `const` that is read entry by entry is copied
+// whole for each entry.
 fn lowest_at(place: usize) -> u64
-    requires { ⌜ place < 10 ⌝ }
     ensures { λ r. ⌜ r ≡ setAt place .lowest ⌝ }
 {
     if place < 3 {
@@ -110,7 +110,6 @@ pub(crate) fn first_bad_of(callsign: &[u8], locator: &[u8]) -> usize
 // A character's value, counted from the lowest of its place's set: 0 below it, as the definition's
 // difference is.
 pub fn digit_at(place: usize, byte: u8) -> u64
-    requires { ⌜ place < 10 ⌝ }
     ensures { λ r. ⌜ r ≡ digitAt place byte ⌝ }
 {
     let value = value_of(byte);

@@ -5,6 +5,10 @@ use Rattle.refusal.specs.declared.Refusal.{Refusal}
 abbrev pub refusal : ℕ → ℕ → Refusal
 refusal number place = record { number = number; place = place }
 
+-- What stands in its place where nothing is refused: number and place are 0.
+abbrev pub success : Refusal
+success = refusal 0 0
+
 -- "a lent buffer hasn't its exact length (call 6, locator 4, frame 162)"
 abbrev pub wrongLength : ℕ
 wrongLength = 1

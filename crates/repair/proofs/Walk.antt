@@ -262,6 +262,7 @@ module _ {received : List ℕ} {limit budget : ℕ} where
         let root : number ≡ 0 = omega (arith, rw (e, prefixes-root) at (w .number-below)) in
         let all : next ≡ 2 ^ 50 = rw (at-end, next-all depth number, root, e, zero-mul (span 0), span-root) in
         record {
+          stops = omega (arith, w .live-within);
           over-budget = λ over. absurd (omega (arith, w .live-within));
           counted = λ h. w .live-is ∙ rw (all, root, e, zero-mul (span 0)) (live-ends received limit);
           best-of-all = λ h. rw all at (w .best-is);

@@ -42,8 +42,10 @@ pub record Received (received : List ℕ) : Type 0 where
   pub long : length received ≡ 162
   pub are-bits : (index : ℕ) → index < 162 → getD received index 0 < 2
 
--- The count is above the budget only where the live count is; else it is the live count, and the record is that of all words.
+-- "The search stops at once, from however deep, when the count passes the budget": it counts one prefix past the budget at most. The count
+-- is above the budget only where the live count is; else it is the live count, and the record is that of all words.
 pub record SearchFound (received : List ℕ) (limit budget : ℕ) (found : Found) : Type 0 where
+  pub stops : found .live ≤ budget + 1
   pub over-budget : budget < found .live → budget < liveCount received limit
   pub counted : found .live ≤ budget → found .live ≡ liveCount received limit
   pub best-of-all : found .live ≤ budget → BestBelow received limit (2 ^ 50) (found .best)

@@ -6,7 +6,7 @@ mod prefix;
 mod search;
 
 ghost use mathlib.Core.Path.{_≡_};
-ghost use Rattle.repair.specs.Answer.{firstBadBound, repaired};
+ghost use Rattle.repair.specs.Answer.{firstBadBound, repaired, repairNumbers};
 ghost use Rattle.repair.specs.Demand.{AsChecked, AsDemanded, TwoFlipsRepaired};
 ghost use Rattle.repair.specs.Search.{answerOf};
 use refusal::BAD_BOUND;
@@ -18,7 +18,9 @@ use refusal::SYMBOL_TOO_LARGE;
 use refusal::WRONG_LENGTH;
 use search::Found;
 
-// The nearest word, its disagreements, the live count, and how many of the 162 sync bits are wrong.
+// The nearest word, its disagreements, the live count, and how many of the 162 sync bits are wrong. C
+// gets it whole, in the struct of a repair.
+#[repr(C)]
 pub struct Nearest {
     pub word: u64,
     pub disagreements: u32,
@@ -80,6 +82,7 @@ fn answer(found: Found, sync_wrong: u32, limit: u32, budget: u32) -> RepairAnswe
 // within the budget; else why not.
 pub fn repair(frame: &[u8], limit: u32, budget: u32) -> RepairAnswer
     ensures answer { λ r. ⌜ r ≡ repaired (now (frame .entry)) limit budget ⌝ }
+    ensures numbers { λ r. ⌜ repairNumbers r ≡ repairNumbers (repaired (now (frame .entry)) limit budget) ⌝ }
     ensures checked { λ r. ⌜ AsChecked (now (frame .entry)) limit budget r ⌝ }
     ensures demanded { λ r. ⌜ AsDemanded (now (frame .entry)) limit budget r ⌝ }
     ensures two_flips { λ r. ⌜ TwoFlipsRepaired (now (frame .entry)) limit budget r ⌝ }

@@ -33,16 +33,7 @@ unfoldable pub messageResult : MessageNumbers → WsprMessage
 messageResult numbers = record { refusal = numbers .number; place = numbers .place; power = numbers .power }
 
 unfoldable pub repairedResult : RepairNumbers → WsprRepaired
-repairedResult numbers =
-    let n = numbers .nearest in
-    record {
-      refusal = numbers .number;
-      place = numbers .place;
-      word = n .word;
-      disagreements = n .disagreements;
-      live = n .live;
-      «sync_wrong» = n .«sync_wrong»;
-    }
+repairedResult numbers = record { refusal = numbers .number; place = numbers .place; nearest = numbers .nearest }
 
 unfoldable pub readingResult : TelemetryNumbers → U4bReading
 readingResult numbers =
@@ -77,10 +68,7 @@ abbrev pub messageAnswerIn : WsprMessage → MessageAnswer
 messageAnswerIn r = answerIn (r .refusal) (r .place) (MessageAnswer.Power (r .power)) MessageAnswer.Refused
 
 abbrev pub repairAnswerIn : WsprRepaired → RepairAnswer
-repairAnswerIn r =
-    answerIn (r .refusal) (r .place)
-    (RepairAnswer.Word (record { word = r .word; disagreements = r .disagreements; live = r .live; «sync_wrong» = r .«sync_wrong» }))
-    RepairAnswer.Refused
+repairAnswerIn r = answerIn (r .refusal) (r .place) (RepairAnswer.Word (r .nearest)) RepairAnswer.Refused
 
 abbrev pub telemetryAnswerIn : U4bReading → TelemetryAnswer
 telemetryAnswerIn r =

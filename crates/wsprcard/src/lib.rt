@@ -13,6 +13,7 @@ ghost use Rattle.wsprcard.specs.Results.{writtenResult, wordResult, mess
 use frame::WriteAnswer;
 use message::MessageAnswer;
 use message::WordAnswer;
+use repair::Nearest;
 use repair::RepairAnswer;
 use telemetry::Measured;
 use telemetry::TelemetryAnswer;
@@ -40,16 +41,13 @@ pub struct WsprMessage {
     pub power: u32,
 }
 
-// Refusal number (0: success), place, and the nearest word with its disagreements, the live count and
-// the number of wrong sync bits.
+// Refusal number (0: success), place, and the nearest word with what belongs to it. To C the fields of
+// `nearest` are the struct's own, one after another: they start where its first would stand, at byte 8.
 #[repr(C)]
 pub struct WsprRepaired {
     pub refusal: u32,
     pub place: u32,
-    pub word: u64,
-    pub disagreements: u32,
-    pub live: u32,
-    pub sync_wrong: u32,
+    pub nearest: Nearest,
 }
 
 // Refusal number (0: success), place, and the readings of a telemetry message.
@@ -77,9 +75,9 @@ fn written_result(answer: WriteAnswer) -> WsprWritten
             refusal: 0,
             place: 0,
         },
-        WriteAnswer::Refused(refusal) => WsprWritten {
-            refusal: refusal.number, // never 0
-            place: refusal.place,
+        WriteAnswer::Refused(refused) => WsprWritten {
+            refusal: refused.number,
+            place: refused.place,
         },
     }
 }
@@ -128,18 +126,17 @@ fn repaired_result(answer: RepairAnswer) -> WsprRepaired
         RepairAnswer::Word(nearest) => WsprRepaired {
             refusal: 0,
             place: 0,
-            word: nearest.word,
-            disagreements: nearest.disagreements,
-            live: nearest.live,
-            sync_wrong: nearest.sync_wrong,
+            nearest,
         },
         RepairAnswer::Refused(refusal) => WsprRepaired {
             refusal: refusal.number,
             place: refusal.place,
-            word: 0,
-            disagreements: 0,
-            live: 0,
-            sync_wrong: 0,
+            nearest: Nearest {
+                word: 0,
+                disagreements: 0,
+                live: 0,
+                sync_wrong: 0,
+            },
         },
     }
 }

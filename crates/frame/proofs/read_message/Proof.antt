@@ -1,6 +1,7 @@
 -- `frame::read_message` meets its contract: the frame's refusal, or what unpacking its word answers and writes.
 -- Assumes nothing.
 use mathlib.Core.Path.{sym, ap, _∙_}
+use Rattle.message.specs.Answer.{wordNumbers}
 use Rattle.frame.specs.Answer.{refusalOf}
 use Rattle.frame.proofs.RoundTripLaws.{read-message-refused, read-message-word}
 use borrow.Author.Needs.{needs}
@@ -20,7 +21,7 @@ refusal-of-requires : tie.Need-refusal-of-requires
 refusal-of-requires c κs = search needs
 
 returns : tie.Need-returns
-unfolding refusalOf
+unfolding refusalOf wordNumbers
 returns c =
     let r = c .before .before .before in
     let a = r .before .before .before .before .args in
@@ -44,7 +45,7 @@ returns-2 c =
     let r = k .before .before in
     let a = r .before .before .before .before .args in
     let e = u .unpack .ensures in
-    read-message-word (a .frame .now) (a .callsign .now) (a .locator .now) _ _ _ _ (sym (r .read-word .ensures .0) ∙ k .answer .given .1) (e .0) (e .1 .0) (e .1 .1 .0)
+    read-message-word (a .frame .now) (a .callsign .now) (a .locator .now) _ _ _ _ (sym (r .read-word .ensures .0) ∙ k .answer .given .1) (e .0) (e .1 .1 .0) (e .1 .1 .1 .0)
 
 pub read-message-spec : {M : Type 1} → statement M
 read-message-spec =

@@ -6,7 +6,7 @@ use Rattle.basics.proofs.ListLaws.{none-fails}
 use Rattle.power.proofs.Laws.{legal-power-end}
 use Rattle.message.specs.Character.{legalAt}
 use Rattle.message.specs.Word.{wordOf}
-use Rattle.message.specs.Answer.{checked}
+use Rattle.message.specs.Answer.{checked, wordNumbers}
 use Rattle.message.specs.declared.CheckAnswer.{CheckAnswer}
 use Rattle.message.specs.declared.WordAnswer.{WordAnswer}
 use Rattle.message.proofs.WordLaws.{callsignNumber-below, locatorNumber-below}
@@ -19,7 +19,7 @@ use Rattle.message.proofs.pack.Tie as tie
 -- Past the test the message is legal.
 is-checked : (c : tie.After-enum-told) → let a = c .before .before .before .before .before .args in
     checked (a .callsign .now) (a .locator .now) (a .power) ≡ CheckAnswer.Legal
-is-checked c = sym (c .before .before .check .ensures) ∙ c .enum-told .given .1
+is-checked c = sym (c .before .before .check .ensures .0) ∙ c .enum-told .given .1
 
 its-legal : (c : tie.After-enum-told) → let a = c .before .before .before .before .before .args in
     Legal (a .callsign .now) (a .locator .now) (a .power)
@@ -37,7 +37,8 @@ returns : tie.Need-returns
 returns c =
     let p = c .before .before .before in
     let a = p .before .before .before .args in
-    (sym (packed-refused (a .callsign .now) (a .locator .now) (a .power) _ (sym (p .check .ensures) ∙ c .before .checked .given .1)), tt)
+    let refused = packed-refused (a .callsign .now) (a .locator .now) (a .power) _ (sym (p .check .ensures .0) ∙ c .before .checked .given .1) in
+    (sym refused, (ap wordNumbers (sym refused), tt))
 
 enum-told : tie.Need-enum-told
 enum-told c = search needs
@@ -66,7 +67,7 @@ returns-2 c =
     let locator = c .before .locator-number .ensures in
     let word : c .assemble .result ≡ wordOf (a .callsign .now) (a .locator .now) (a .power) = cc (c .assemble .ensures) in
     let made = packed-word (a .callsign .now) (a .locator .now) (a .power) (is-checked k) ∙ ap WordAnswer.Word (sym word) in
-    (sym made, unpack-pack _ _ _ _ made)
+    (sym made, (ap wordNumbers (sym made), unpack-pack _ _ _ _ made))
 
 pub pack-spec : {M : Type 1} → statement M
 pack-spec =

@@ -16,7 +16,7 @@ use Rattle.u4b.proofs.read.Tie as tie
 -- Past the first test the message is legal.
 is-checked : (c : tie.After-enum-told) → let a = c .before .before .before .before .before .args in
     checked (a .callsign .now) (a .locator .now) (a .power) ≡ CheckAnswer.Legal
-is-checked c = sym (c .before .before .check .ensures) ∙ c .enum-told .given .1
+is-checked c = sym (c .before .before .check .ensures .0) ∙ c .enum-told .given .1
 
 its-legal : (c : tie.After-enum-told) → let a = c .before .before .before .before .before .args in
     Legal (a .callsign .now) (a .locator .now) (a .power)
@@ -34,7 +34,7 @@ returns : tie.Need-returns
 returns c =
     let p = c .before .before .before in
     let a = p .before .before .before .args in
-    sym (carried-refused (a .callsign .now) (a .locator .now) (a .power) _ (sym (p .check .ensures) ∙ c .before .checked .given .1))
+    sym (carried-refused (a .callsign .now) (a .locator .now) (a .power) _ (sym (p .check .ensures .0) ∙ c .before .checked .given .1))
 
 enum-told : tie.Need-enum-told
 enum-told c = search needs

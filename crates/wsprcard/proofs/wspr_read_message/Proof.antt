@@ -24,7 +24,7 @@ returns c =
     let a = m .before .before .before .before .before .before .args in
     let answered = message-read-answered (a .frame .now) (a .callsign .now) (a .locator .now) in
     let (result, same) = told (given-found _ answered) (c .message-result .ensures) (m .read-message .ensures .0) in
-    (result, rw same at (m .read-message .ensures .1))
+    (result, rw same at (m .read-message .ensures .1 .1))
 
 pub wspr-read-message-spec : {M : Type 1} → statement M
 wspr-read-message-spec = tie.close (tie.spec read-message-requires message-result-requires same-length same-length-2 returns)

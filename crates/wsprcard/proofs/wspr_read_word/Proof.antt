@@ -16,7 +16,7 @@ returns : tie.Need-returns
 returns c =
     let m = c .before in
     let frame = m .before .before .args .frame .now in
-    let (is, (writes, (exactly, none))) = m .read-word .ensures in
+    let (is, (numbers, (writes, (exactly, none)))) = m .read-word .ensures in
     let (result, same) = told (packed-found _ (read-answered frame)) (c .word-result .ensures) is in
     (result, (rw same at writes, (rw same at exactly, rw same at none)))
 

@@ -18,7 +18,7 @@ returns c =
     let a = m .before .before .args in
     let numbered = refusal-number (a .frame .now) (a .limit) (a .budget) in
     let (result, same) = told (repaired-found _ numbered) (c .repaired-result .ensures) (m .repair .ensures .0) in
-    (result, rw same at (m .repair .ensures .1))
+    (result, rw same at (m .repair .ensures .1 .1))
 
 pub wspr-repair-spec : {M : Type 1} → statement M
 wspr-repair-spec = tie.close (tie.spec repair-requires repaired-result-requires returns)

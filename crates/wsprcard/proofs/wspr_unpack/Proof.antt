@@ -24,7 +24,7 @@ returns c =
     let a = m .before .before .before .before .before .args in
     let answered = unpacked-answered (a .callsign .now) (a .locator .now) (a .word) in
     let (result, same) = told (given-found _ answered) (c .message-result .ensures) (m .unpack .ensures .0) in
-    (result, rw same at (m .unpack .ensures .1))
+    (result, rw same at (m .unpack .ensures .1 .1))
 
 pub wspr-unpack-spec : {M : Type 1} → statement M
 wspr-unpack-spec = tie.close (tie.spec unpack-requires message-result-requires same-length same-length-2 returns)

@@ -21,7 +21,7 @@ returns c =
     let a = w .before .before .before .args in
     let answered = written-answered (a .frame .now) (a .word) in
     let (result, same) = told (written-found _ answered) (c .written-result .ensures) (w .write-word .ensures .0) in
-    (result, rw same at (w .write-word .ensures .1))
+    (result, rw same at (w .write-word .ensures .1 .1))
 
 pub wspr-write-word-spec : {M : Type 1} → statement M
 wspr-write-word-spec = tie.close (tie.spec write-word-requires written-result-requires same-length returns)

@@ -5,7 +5,7 @@ use mathlib.Core.Logic.{⊎-elim}
 use native.Mathlib.Omega.{arith}
 use borrow.Author.Tests.{not-true, not-false}
 use Rattle.message.specs.Word.{powerPart}
-use Rattle.message.proofs.AnswerLaws.{wordAnswer-callsign, wordAnswer-locator, wordAnswer-low, wordAnswer-illegal, wordAnswer-power}
+use Rattle.message.proofs.AnswerLaws.{wordMessage-callsign, wordMessage-locator, wordMessage-low, wordMessage-illegal, wordMessage-power}
 use borrow.Author.Needs.{needs}
 use Rattle.message.proofs.word.read_word.Statement.{statement}
 use Rattle.message.proofs.word.read_word.Tie as tie
@@ -14,14 +14,14 @@ callsign-part-requires : tie.Need-callsign-part-requires
 callsign-part-requires c κs = search needs
 
 returns : tie.Need-returns
-returns c = sym (wordAnswer-callsign (c .before .before .args .word) (omega arith))
+returns c = sym (wordMessage-callsign (c .before .before .args .word) (omega arith))
 
 locator-part-requires : tie.Need-locator-part-requires
 locator-part-requires c κs = search needs
 
 returns-2 : tie.Need-returns-2
 returns-2 c =
-    sym (wordAnswer-locator (c .before .before .before .before .args .word) (omega arith) (omega arith))
+    sym (wordMessage-locator (c .before .before .before .before .args .word) (omega arith) (omega arith))
 
 cast-bits : tie.Need-cast-bits
 cast-bits c = search needs
@@ -34,15 +34,15 @@ unfolding powerPart
 returns-3 c =
     let word = c .before .before .before .before .before .args .word in
     ⊎-elim
-    (λ w. sym (wordAnswer-low word (omega arith) (omega arith) (omega arith)))
-    (λ w. sym (wordAnswer-illegal word (omega arith) (omega arith) (omega arith) (sym (w .1 .ensures) ∙ not-true _ (w .2 .taken))))
+    (λ w. sym (wordMessage-low word (omega arith) (omega arith) (omega arith)))
+    (λ w. sym (wordMessage-illegal word (omega arith) (omega arith) (omega arith) (sym (w .1 .ensures) ∙ not-true _ (w .2 .taken))))
     (c .if3 .came)
 
 returns-4 : tie.Need-returns-4
 unfolding powerPart
 returns-4 c =
     let word = c .before .before .before .before .before .before .before .args .word in
-    sym (wordAnswer-power word (omega arith) (omega arith) (omega arith) (sym (c .before .is-legal .ensures) ∙ not-false _ (c .if4 .left)))
+    sym (wordMessage-power word (omega arith) (omega arith) (omega arith) (sym (c .before .is-legal .ensures) ∙ not-false _ (c .if4 .left)))
 
 pub read-word-spec : {M : Type 1} → statement M
 read-word-spec =

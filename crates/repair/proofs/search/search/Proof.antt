@@ -212,6 +212,7 @@ returns c =
     let n = c .before .before in
     let l = n .before .before .before in
     record {
+      stops = omega (arith, l .loop .inv .0 .live-within);
       over-budget = λ over. walk-over (l .loop .inv .0) (few (n .before)) _ (longer n) (omega (arith, c .before .if2 .taken)) (omega (arith, c .if3 .taken));
       counted = λ within. absurd (omega (arith, c .if3 .taken));
       best-of-all = λ within. absurd (omega (arith, c .if3 .taken));
