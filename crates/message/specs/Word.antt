@@ -7,7 +7,8 @@ use Rattle.message.specs.Character.{digitsFrom, charactersFrom}
 
 -- ---- Writing
 
--- "N starts as place 0; then times 36 plus place 1; times 10 plus place 2; then three times: times 27 plus (value less 10)."
+-- "N starts as place 0; then times 36 plus place 1; times 10 plus place 2; then three times: times 27 plus (value less 10)." The first
+-- radix multiplies 0 only; 37 is how many characters place 0 takes.
 unfoldable pub callsignRadices : List ℕ
 callsignRadices = 37 ∷ 36 ∷ 10 ∷ 27 ∷ 27 ∷ 27 ∷ []
 

@@ -84,12 +84,12 @@ module _ (line : List ℕ) where
       unfolding vectorIn numbers
       no-word h = rw (form, its-power, h)
 
-      pub both-numbers : {word : ℕ} → wordIn (fieldAt 3 line) ≡ Number.Value word → vectorIn line ≡ Vector.Numbers power word
+      pub both-numbers : {word : ℕ} → wordIn (fieldAt 3 line) ≡ Number.Value word → vectorIn line ≡ Vector.PowerAndWord power word
       unfolding vectorIn numbers
       both-numbers h = rw (form, its-power, h)
 
   -- A vector has 162 symbols.
-  pub symbols-of-vector : {power word : ℕ} → vectorIn line ≡ Vector.Numbers power word → length (fieldAt 4 line) ≡ 162
+  pub symbols-of-vector : {power word : ℕ} → vectorIn line ≡ Vector.PowerAndWord power word → length (fieldAt 4 line) ≡ 162
   symbols-of-vector e =
       equal-or-not (length (fieldAt 4 line)) 162 (λ h. h)
       (λ h. absurd (let z : _≡_ {A = ℕ} 0 1 = cc (no-form (no-symbols h)) in omega arith))

@@ -28,7 +28,7 @@ wordIn text = cond (eqb (length text) 13) (numberIn 16 text) Number.Malformed
 
 -- Both numbers, or no vector.
 unfoldable pub numbers : Number → Number → Vector
-numbers (Number.Value power) (Number.Value word) = Vector.Numbers power word
+numbers (Number.Value power) (Number.Value word) = Vector.PowerAndWord power word
 numbers (Number.Value power) Number.Malformed = Vector.Malformed
 numbers Number.Malformed word = Vector.Malformed
 

@@ -85,7 +85,7 @@ fn print_answers(line: &[u8], power: u32, word: u64)
 
 fn print_vector(line: &[u8]) {
     match vector::read(line) {
-        Vector::Numbers { power, word } => print_answers(line, power, word),
+        Vector::PowerAndWord { power, word } => print_answers(line, power, word),
         Vector::Malformed => print(b"malformed"),
     }
     print(b"\n");

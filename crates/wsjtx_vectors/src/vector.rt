@@ -9,7 +9,7 @@ use super::number::digit_value;
 
 // What a line says.
 pub(crate) enum Vector {
-    Numbers { power: u32, word: u64 },
+    PowerAndWord { power: u32, word: u64 },
     Malformed,
 }
 
@@ -60,7 +60,7 @@ pub(crate) fn read(line: &[u8]) -> Vector
     let Number::Value(word) = read_word(field(line, 3)) else {
         return Vector::Malformed;
     };
-    Vector::Numbers {
+    Vector::PowerAndWord {
         power: power as u32,
         word,
     }
