@@ -3,6 +3,7 @@ CC = gcc
 CFLAGS = -O2
 COMPILE = $(CC) -std=c11 -Wall -Wextra $(CFLAGS) -Iinclude
 CARD = target/staticlib/libwsprcard.a
+LINE_PROGRAM = target/bin/telemetry_lines
 
 # The C programs of tests/c. What each is to print stands beside it, in tests/c/NAME.stdout.
 INTERFACE = messages frames repair telemetry
@@ -22,18 +23,22 @@ run: all
 # What `make` has built: so that root needs no toolchain.
 PREFIX ?= /usr/local
 install:
-	test -x build/wsprcard || { echo 'run make first' >&2; exit 1; }
+	test -x build/wsprcard && test -x $(LINE_PROGRAM) || { echo 'run make first' >&2; exit 1; }
 	install -D build/wsprcard $(DESTDIR)$(PREFIX)/bin/wsprcard
+	install -D $(LINE_PROGRAM) $(DESTDIR)$(PREFIX)/bin/telemetry_lines
 	install -D -m 644 host/wsprcard.1 $(DESTDIR)$(PREFIX)/share/man/man1/wsprcard.1
 	install -D -m 644 include/wsprcard.h $(DESTDIR)$(PREFIX)/include/wsprcard.h
 	install -D -m 644 $(CARD) $(DESTDIR)$(PREFIX)/lib/libwsprcard.a
 
 # The gate first, as what it has proved isn't proved again for the outside tests; its last line, 'N passed, 0 failed', is
-# said once more at the end.
+# said once more at the end. The gate has passed only with that line and with exit status 0, which goes through a file,
+# as that of the pipe is tee's.
 test:
 	mkdir -p build
-	rt ci 2>&1 | tee build/gate.log
-	tail -n 1 build/gate.log | grep -q ' passed, 0 failed$$'
+	rm -f build/gate.status
+	{ rt ci 2>&1; echo $$? > build/gate.status; } | tee build/gate.log
+	test "$$(cat build/gate.status)" = 0
+	tail -n 1 build/gate.log | grep -q '^[0-9][0-9]* passed, 0 failed$$'
 	$(MAKE) outside
 	tail -n 1 build/gate.log
 

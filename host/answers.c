@@ -5,7 +5,8 @@
 #include <stdio.h>
 #include <string.h>
 
-/* A reason holds from its place on, up to that of the next one of the same number. */
+/* A reason holds from its place on, up to that of the next one of the same number. None has a semicolon, which
+ * separates the parts of a repair. */
 static const struct {
     uint32_t number, place;
     form of;
@@ -14,6 +15,7 @@ static const struct {
     {1, 0, FRAME, "a frame has 162 symbols"},
     {1, 0, MESSAGE, "the line isn't a callsign of up to 6 characters, a locator of 4 and a power"},
     {1, 0, REPORT, "the line isn't a report of 7 fields"},
+    {1, 0, CUT_OFF, "the line is cut off before its newline"},
     {2, 0, ANY_FORM, "the callsign's character isn't 0 to 9, A to Z or a space"},
     {2, 1, ANY_FORM, "the callsign's character isn't 0 to 9 or A to Z"},
     {2, 2, ANY_FORM, "the callsign's character isn't 0 to 9"},
@@ -23,7 +25,7 @@ static const struct {
     {3, 0, ANY_FORM, "the power isn't one of the 19"},
     {4, 0, ANY_FORM, "the callsign's number in the word is 262177560 or more"},
     {5, 0, ANY_FORM, "the locator's number in the word is 32400 or more"},
-    {6, 0, ANY_FORM, "the power in the word isn't one of the 19"},
+    {6, 0, ANY_FORM, "the power in the word isn't one of the 19: most often a type 2 or 3 message"},
     {7, 0, ANY_FORM, "the symbol isn't 0 to 3"},
     {8, 0, ANY_FORM, "the symbol's sync bit is wrong"},
     {9, 0, ANY_FORM, "no word has this frame"},
@@ -43,7 +45,7 @@ static const struct {
     {14, 8, ANY_FORM, "GPS isn't 0 or 1"},
     {15, 0, ANY_FORM, "the limit isn't 0 to 12"},
     {15, 1, ANY_FORM, "the budget isn't 1 to 65536"},
-    {16, 0, ANY_FORM, "the live count is above the budget"},
+    {16, 0, ANY_FORM, "the live count is above the budget: try a larger one, up to 65536, or a smaller limit"},
     {17, 0, ANY_FORM, "no word is within the limit"},
     {18, 0, ANY_FORM, "two or more words share the fewest disagreements"},
 };

@@ -16,8 +16,8 @@ typedef struct {
     uint32_t number, place;
 } refusal;
 
-/* What a line is to be: it tells the reasons of refusal 1 apart. */
-typedef enum { ANY_FORM, MESSAGE, FRAME, REPORT } form;
+/* What a line is to be, or that it was cut off: it tells the reasons of refusal 1 apart. */
+typedef enum { ANY_FORM, MESSAGE, FRAME, REPORT, CUT_OFF } form;
 
 /* A message as the card gives it. Where it refuses there are no characters. */
 typedef struct {

@@ -11,7 +11,8 @@ bool read_line(FILE *input, line *l)
             l->bytes[l->length++] = (uint8_t)c;
         c = getc(input);
     }
-    if (c == EOF && (ferror(input) || l->length == 0))
+    l->cut_off = c == EOF;
+    if (l->cut_off && (ferror(input) || l->length == 0))
         return false;
     if (l->length > 0 && l->bytes[l->length - 1] == '\r')
         l->length--;

@@ -11,10 +11,12 @@
 #define LINE_KEPT 256
 
 /* A line without its end, or the start of a line that is longer than what is kept. Two bytes more tell the two apart,
- * even when the last of them is a carriage return and is dropped: then `length` is still above LINE_KEPT. */
+ * even when the last of them is a carriage return and is dropped: then `length` is still above LINE_KEPT. `cut_off` is
+ * set where the input ended before a newline. */
 typedef struct {
     uint8_t bytes[LINE_KEPT + 2];
     size_t length;
+    bool cut_off;
 } line;
 
 /* A part of a line. */

@@ -12,6 +12,11 @@
 /* A wrong argument is shown up to this length. */
 #define SHOWN_LENGTH 40
 
+/* At the usual limit and budget repair gives back every word whose frame has at most two flipped data bits. */
+#define USUAL_LIMIT 2
+#define USUAL_BUDGET 16000
+#define LARGEST_BUDGET 65536
+
 #define BIT(option) (1u << (option))
 
 static const struct {
@@ -20,12 +25,12 @@ static const struct {
     uint32_t unless_given;
     const char *help;
 } options[OPTIONS] = {
-    [LIMIT] = {"--limit", true, 2,
+    [LIMIT] = {"--limit", true, USUAL_LIMIT,
                "  --limit N   the most disagreements that a repaired word may have,\n"
                "              0 to 12; 2 unless given\n"},
-    [BUDGET] = {"--budget", true, 16000,
+    [BUDGET] = {"--budget", true, USUAL_BUDGET,
                 "  --budget N  the largest live count that is searched through,\n"
-                "              1 to 65536; 16000 unless given\n"},
+                "              1 to 65536; unless given 16000, and 65536 with a limit above 2\n"},
     [WRITE] = {"--write", false, 0, "  --write     a report to its message\n"},
     [JSON] = {"--json", false, 0, "  --json      one JSON object a line instead of plain text\n"},
 };
@@ -37,22 +42,34 @@ static const struct {
 #define REPAIR_HELP \
     "The answer is the word, its message, the message's telemetry, the disagreements,\n" \
     "the live count and the number of wrong sync bits.\n"
+#define COUNTS_HELP \
+    "\n" \
+    "The live count of a clean frame, in which no data bit is flipped, by limit:\n" \
+    "\n" \
+    "  limit  0  1   2   3   4    5    6    7     8     9    10     11     12\n" \
+    "  live  81 81 131 279 569 1573 3495 7611 17851 42557 97265 222823 514948\n" \
+    "\n" \
+    "A budget below the live count refuses even a clean frame (16): with a budget of\n" \
+    "16000 limits up to 7 can answer, with 65536 limits up to 9, and limits 10 to 12\n" \
+    "refuse every clean frame whatever the budget. So use limits up to 9. A frame\n" \
+    "with flipped data bits can have another live count.\n"
 #define REPORT_HELP \
     "A report is channel, sub-square, metres, degrees, millivolts, knots and GPS,\n" \
     "as Q2 SK 12340 -15 4100 30 1.\n"
 
+/* Of its two helps one stands before the options and one behind them. */
 static const struct {
-    const char *name, *takes, *does, *help;
+    const char *name, *takes, *does, *help, *last_help;
     unsigned options;
 } commands[COMMANDS] = {
-    [ENCODE] = {"encode", "[--json]", "a message to its frame", MESSAGE_HELP FRAME_HELP, BIT(JSON)},
-    [READ] = {"read", "[--json]", "a frame to its message, strictly: nothing is repaired", FRAME_HELP MESSAGE_HELP,
+    [ENCODE] = {"encode", "[--json]", "a message to its frame", MESSAGE_HELP FRAME_HELP, "", BIT(JSON)},
+    [READ] = {"read", "[--json]", "a frame to its message, strictly: nothing is repaired", FRAME_HELP MESSAGE_HELP, "",
               BIT(JSON)},
     [REPAIR] = {"repair", "[--limit N] [--budget N] [--json]",
-                "a frame, damaged or not, to the one word that is nearest to it", FRAME_HELP REPAIR_HELP,
+                "a frame, damaged or not, to the one word that is nearest to it", FRAME_HELP REPAIR_HELP, COUNTS_HELP,
                 BIT(LIMIT) | BIT(BUDGET) | BIT(JSON)},
     [TELEMETRY] = {"telemetry", "[--write] [--json]", "a message to the report in it; with --write the other way",
-                   MESSAGE_HELP REPORT_HELP, BIT(WRITE) | BIT(JSON)},
+                   MESSAGE_HELP REPORT_HELP, "", BIT(WRITE) | BIT(JSON)},
 };
 
 /* The usage of a command, or of the program for COMMANDS. */
@@ -92,7 +109,7 @@ static void print_command_help(command which)
     for (unsigned i = 0; i < OPTIONS; i++)
         if (commands[which].options & BIT(i))
             fputs(options[i].help, stdout);
-    fputs("  --help      this text; nothing is read\n", stdout);
+    printf("  --help      this text; nothing is read\n%s", commands[which].last_help);
 }
 
 /* A wrong argument as one short piece of a sentence, whatever its bytes are. */
@@ -152,8 +169,11 @@ static bool read_value(const char *value, uint32_t *number)
     return value && read_number((span){(const uint8_t *)value, strlen(value)}, number);
 }
 
+/* From limit 8 on the usual budget refuses every clean frame, so that a larger limit alone has the largest budget. */
 static outcome read_options(char **arguments, call *c)
 {
+    bool given[OPTIONS] = {false};
+
     while (*arguments) {
         const char *argument = *arguments++, *value;
         unsigned option = find_option(c->command, argument, &value);
@@ -161,11 +181,14 @@ static outcome read_options(char **arguments, call *c)
         if (option == OPTIONS)
             return wrong(c->command, argument, " isn't an option of this command");
         c->option[option] = 1;
+        given[option] = true;
         if (options[option].takes_number && !value && *arguments)
             value = *arguments++;
         if (options[option].takes_number && !read_value(value, &c->option[option]))
             return wrong(c->command, options[option].name, " needs a number");
     }
+    if (!given[BUDGET] && c->option[LIMIT] > USUAL_LIMIT)
+        c->option[BUDGET] = LARGEST_BUDGET;
     return RUN;
 }
 

@@ -218,6 +218,19 @@ static int send_output(void)
     return fflush(stdout) == 0 && !ferror(stdout) ? ALL_ANSWERED : failed("the output can't be written");
 }
 
+/* What is left of a line that is cut off may pass for another message or report: the card isn't asked. What is left of
+ * a frame is too short, and the card refuses it. */
+static refusal answer_line(run *r, const job *j, const line *l)
+{
+    bool cut = l->cut_off && j->of != FRAME;
+    refusal refused = cut ? (refusal){1, 0} : j->answer(r, l);
+
+    if (refused.number)
+        r->out->refused(refused, cut ? CUT_OFF : j->of);
+    putchar('\n');
+    return refused;
+}
+
 static int answer_lines(const call *c)
 {
     const job *j = &jobs[c->command][c->option[WRITE]];
@@ -225,12 +238,7 @@ static int answer_lines(const call *c)
     line l;
 
     while (read_line(stdin, &l)) {
-        refusal refused = j->answer(&r, &l);
-
-        if (refused.number)
-            r.out->refused(refused, j->of);
-        putchar('\n');
-        count_line(&r, refused);
+        count_line(&r, answer_line(&r, j, &l));
         if (send_output() == FAILED)
             return FAILED;
     }

@@ -21,7 +21,9 @@
  *      or more
  *   5  the 15 bits after them, the locator's number, are         0
  *      32,400 or more
- *   6  the low seven bits less 64 aren't a legal power           0
+ *   6  the low seven bits less 64 aren't a legal power; from     0
+ *      the air most often a message of type 2 or 3, with a
+ *      compound or a hashed callsign
  *   7  a symbol is above 3                                       the first such, 0 to 161
  *   8  a sync bit (a symbol modulo 2) is wrong                   the first such, 0 to 161
  *   9  no 50-bit word has this frame                             0
@@ -35,7 +37,8 @@
  *                                                                5 temperature, 6 voltage, 7 speed,
  *                                                                8 gps
  *   15 the limit is above 12; the budget is 0 or above 65,536    0 the limit, 1 the budget
- *   16 the live count is above the budget                        0
+ *   16 the live count is above the budget; a larger one, up to   0
+ *      65,536, or a smaller limit may answer
  *   17 no word is within the limit                               0
  *   18 two or more words share the fewest disagreements          0
  *
@@ -131,6 +134,15 @@ wspr_message wspr_read_message(const uint8_t *frame, size_t frame_len, uint8_t *
  *
  *   limit   0 to 12 data bits: the most disagreements that the word may have
  *   budget  1 to 65,536 prefixes: the largest live count that is gone through
+ *
+ * The live count of a clean frame, in which no data bit is flipped, by limit:
+ *
+ *   limit  0  1   2   3   4     5     6     7      8      9     10      11      12
+ *   live  81 81 131 279 569 1,573 3,495 7,611 17,851 42,557 97,265 222,823 514,948
+ *
+ * A budget below the live count refuses even a clean frame (16): with a budget of 16,000 limits up to 7 can answer,
+ * with 65,536 limits up to 9, and limits 10 to 12 refuse every clean frame whatever the budget. So use limits up to 9.
+ * A frame with flipped data bits can have another live count.
  *
  * Refusals 1, 15, 7, 16, 17, 18, in that order. Sync bits never refuse a repair: the wrong ones are counted. Whichever
  * word was sent, and whichever of its frame's data bits were flipped, two at most, limit 2 and budget 16,000 give it

@@ -13,6 +13,7 @@ use std::time::Duration;
 
 use wsprcard_tests::child::{assert_output, end_of, in_repository, Ended, Program};
 use wsprcard_tests::counts::Counts;
+use wsprcard_tests::facts::CLEAN;
 use wsprcard_tests::inputs::{
     bad_word, flipped, noise, random_legal_word, random_message, random_places, random_telemetry,
     resized, spoil_sync, spoil_telemetry,
@@ -23,7 +24,7 @@ use wsprcard_tests::lines::{
     telemetry_line, typed_message, typed_report,
 };
 use wsprcard_tests::reference::frame::{frame_of, FRAME_LEN};
-use wsprcard_tests::reference::host::{self as reference, Answer, Call, Command};
+use wsprcard_tests::reference::host::{self as reference, Answer, Call, Command, Refused, Told};
 use wsprcard_tests::reference::message::{self, Message, CALLSIGNS, LOCATORS};
 use wsprcard_tests::reference::repair::live_count;
 use wsprcard_tests::reference::telemetry::{self, Telemetry, ROOM_A, ROOM_B};
@@ -63,6 +64,11 @@ fn right_line(arguments: &[&str]) -> Vec<u8> {
         Command::Telemetry => TELEMETRY.to_vec(),
         Command::WriteTelemetry => REPORT.to_vec(),
     }
+}
+
+/// Whether the command's lines are frames.
+fn takes_frames(arguments: &[&str]) -> bool {
+    matches!(call(arguments).command, Command::Read | Command::Repair { .. })
 }
 
 /// The word of a message that is shown in 14 characters.
@@ -107,7 +113,7 @@ fn assert_json(counts: &mut Counts, call: &Call, input: &[u8], stdout: &[u8]) {
             found = json::parse(text).unwrap_or_else(|left| {
                 panic!("{left} bytes before the end: {}", text.escape_ascii())
             });
-            assert_eq!(found, value_of(call, &answer));
+            assert_eq!(found, value_of(&answer));
             previous = line;
         }
         count(counts, call, &found);
@@ -138,9 +144,9 @@ fn refusal_in(answer: &Value) -> u32 {
     }
 }
 
-fn value_of(call: &Call, answer: &Result<Answer, Refusal>) -> Value {
+fn value_of(answer: &Result<Answer, Refused>) -> Value {
     match *answer {
-        Err(refusal) => refusal_value(call, refusal),
+        Err(refused) => refusal_value(refused),
         Ok(Answer::Message(message)) => object(message_members(&message)),
         Ok(Answer::Report(report)) => report_value(&report),
         Ok(Answer::Encoded(message, word, frame)) => {
@@ -151,7 +157,7 @@ fn value_of(call: &Call, answer: &Result<Answer, Refusal>) -> Value {
         }
         Ok(Answer::Repaired(repaired, told)) => {
             let mut members = vec![("word", text(format!("{:013x}", repaired.word).as_bytes()))];
-            members.extend(told_members(call, told));
+            members.extend(told_members(told));
             members.push(("disagreements", number(repaired.disagreements)));
             members.push(("live", number(repaired.live)));
             members.push(("sync_wrong", number(repaired.sync_wrong)));
@@ -161,15 +167,12 @@ fn value_of(call: &Call, answer: &Result<Answer, Refusal>) -> Value {
 }
 
 /// The message of a repaired word and the report in it, as far as there are any.
-fn told_members(
-    call: &Call,
-    told: Result<(Message, Result<Telemetry, Refusal>), Refusal>,
-) -> Vec<(&'static str, Value)> {
+fn told_members(told: Told) -> Vec<(&'static str, Value)> {
     match told {
-        Err(refusal) => vec![("message", refusal_value(call, refusal))],
+        Err(refused) => vec![("message", refusal_value(refused))],
         Ok((message, report)) => {
             let report = report.map(|report| report_value(&report));
-            let report = report.unwrap_or_else(|refusal| refusal_value(call, refusal));
+            let report = report.unwrap_or_else(refusal_value);
             vec![("message", object(message_members(&message))), ("telemetry", report)]
         }
     }
@@ -195,11 +198,11 @@ fn report_value(report: &Telemetry) -> Value {
     ])
 }
 
-fn refusal_value(call: &Call, refusal: Refusal) -> Value {
+fn refusal_value(Refused { refusal, reason }: Refused) -> Value {
     object(vec![
         ("refusal", number(refusal.number)),
         ("place", number(refusal.place)),
-        ("reason", text(reference::reason(call.command, &refusal).as_bytes())),
+        ("reason", text(reason.as_bytes())),
     ])
 }
 
@@ -267,7 +270,7 @@ fn examples_of_the_manual_page() -> Vec<(String, String)> {
 #[test]
 fn the_commands_of_the_manual_page_print_what_it_shows() {
     let examples = examples_of_the_manual_page();
-    assert!(examples.len() >= 4, "{examples:?}");
+    assert!(examples.len() >= 5, "{examples:?}");
     for (command, shown) in examples {
         let output = process::Command::new("sh")
             .args(["-c", &command])
@@ -296,6 +299,38 @@ fn the_examples_of_the_manual_page_hold() {
     let start =
         r#"{"callsign":" K1ABC","locator":"FN20","power":37,"word":"3dc308e2ce765","frame":"3302"#;
     assert!(ended.stdout.starts_with(start.as_bytes()), "{}", ended.stdout.escape_ascii());
+}
+
+/// Its JSON objects, in which three points stand for what is left out, and the lines that are
+/// answered by them. The reference gives the answers; others hold the program to it.
+#[test]
+fn the_objects_of_the_manual_page_are_answers() {
+    let page = fs::read_to_string(in_repository("host/wsprcard.1")).unwrap().replace("\\-", "-");
+    let (_, section) = page.split_once(".SH JSON\n").unwrap();
+    let objects = section.split(".nf\n").nth(1).and_then(|text| text.split(".fi").next()).unwrap();
+    let frame = frame_of(word_of_line(b" K1ABC FN20 37"));
+    let mut sync_wrong = frame;
+    sync_wrong[5] ^= 1;
+    let answered: [(&[&str], Vec<u8>); 5] = [
+        (&["read", "--json"], frame_line(&frame)),
+        (&["encode", "--json"], MESSAGE.to_vec()),
+        (&["telemetry", "--json"], TELEMETRY.to_vec()),
+        (&["repair", "--json"], frame_line(&flipped(frame, &[0, 1]))),
+        (&["read", "--json"], frame_line(&sync_wrong)),
+    ];
+    assert_eq!(objects.lines().count(), answered.len(), "{objects}");
+    for (object, (arguments, line)) in objects.lines().zip(answered) {
+        let answer = reference::run(&call(arguments), &joined([line])).stdout;
+        let answer = String::from_utf8(answer).unwrap();
+        assert!(is_abridged(object, answer.trim_end()), "{object} isn't {answer}");
+    }
+}
+
+/// Whether the text is this one, with one character or more in place of each three points.
+fn is_abridged(shown: &str, text: &str) -> bool {
+    let Some((start, rest)) = shown.split_once("...") else { return shown == text };
+    text.strip_prefix(start)
+        .is_some_and(|left| (1..=left.len()).any(|len| is_abridged(rest, &left[len..])))
 }
 
 /// What the second command prints of what the first one prints.
@@ -348,7 +383,8 @@ fn the_summaries_of_the_manual_page_hold() {
 }
 
 /// The reference's reasons are those of the manual page's table: a number, a place where it tells
-/// reasons apart, and at column 7 the reason.
+/// reasons apart, and at column 7 the reason. None has what separates the parts of a repair or
+/// what would need an escape in JSON.
 #[test]
 fn the_reasons_are_those_of_the_manual_page() {
     let page = fs::read_to_string(in_repository("host/wsprcard.1")).unwrap().replace("\\-", "-");
@@ -356,11 +392,13 @@ fn the_reasons_are_those_of_the_manual_page() {
     let table = section.split(".nf\n").nth(1).and_then(|table| table.split(".fi").next()).unwrap();
     let (wrong_forms, rows): (Vec<_>, Vec<_>) =
         table.lines().partition(|row| row.starts_with("1 ") || row.starts_with("  "));
-    let forms = [COMMANDS[1], COMMANDS[0], COMMANDS[4]].map(|arguments| {
+    let [frame, message, report] = [COMMANDS[1], COMMANDS[0], COMMANDS[4]].map(|arguments| {
         reference::reason(call(arguments).command, &Refusal { number: 1, place: 0 })
     });
+    let forms = [frame, message, report, reference::CUT_OFF];
     assert_eq!(wrong_forms.iter().map(|row| &row[7..]).collect::<Vec<_>>(), forms);
     assert_eq!(rows.len(), 32);
+    assert!(!table.contains([';', '"', '\\']), "{table}");
     for row in rows {
         let number = row[..2].trim().parse().unwrap();
         let (reason, same_for) = row[7..].split_once(" (the same for ").unwrap_or((&row[7..], ""));
@@ -447,6 +485,9 @@ fn every_reason_is_told() {
     }
 }
 
+const OVER_BUDGET: &str =
+    "16 0: the live count is above the budget: try a larger one, up to 65536, or a smaller limit";
+
 #[test]
 fn every_reason_is_told_of_frames() {
     let frame = frame_of(word_of_line(TELEMETRY));
@@ -468,7 +509,8 @@ fn every_reason_is_told_of_frames() {
         (&["repair", "--limit", "13", "--budget", "0"], &right, "15 0: the limit isn't 0 to 12"),
         (&["repair", "--limit", "13"], &no_symbol, "15 0: the limit isn't 0 to 12"),
         (&["repair", "--limit", "13"], &right[1..], "1 0: a frame has 162 symbols"),
-        (&["repair", "--limit", "12"], &right, "16 0: the live count is above the budget"),
+        (&["repair", "--limit", "12"], &right, OVER_BUDGET),
+        (&["repair", "--budget", "130"], &right, OVER_BUDGET),
         (&["repair"], &far, "17 0: no word is within the limit"),
     ] {
         assert_answer(arguments, line, &format!("refused {refused}"));
@@ -481,7 +523,7 @@ fn words_that_are_no_messages_are_told() {
     for (word, reason) in [
         (CALLSIGNS << 22, "4 0: the callsign's number in the word is 262177560 or more"),
         (LOCATORS << 7, "5 0: the locator's number in the word is 32400 or more"),
-        (0, "6 0: the power in the word isn't one of the 19"),
+        (0, "6 0: the power in the word isn't one of the 19: most often a type 2 or 3 message"),
     ] {
         let line = frame_line(&frame_of(word));
         assert_answer(&["read"], &line, &format!("refused {reason}"));
@@ -542,6 +584,9 @@ const SEEN_AT_ENDS: &[Seen] = &[
     ("telemetry --write", 14, 5),
 ];
 
+/// What a message or a report is answered by where its newline is missing.
+const CUT_OFF: &str = "refused 1 0: the line is cut off before its newline\n";
+
 /// One carriage return goes with the end of its line; any other belongs to the line.
 #[test]
 fn lines_end_where_the_manual_page_says() {
@@ -555,8 +600,10 @@ fn lines_end_where_the_manual_page_says() {
         };
         let answer = answers(&joined([&right])).concat();
         assert!(!answer.starts_with(b"refused"), "{arguments:?}");
-        assert_eq!(answers(&right), [&answer[..]]);
-        assert_eq!(answers(&[&right, &b"\r\n"[..], &right, b"\r"].concat()), [&answer[..]; 2]);
+        let cut_off = if takes_frames(arguments) { &answer[..] } else { CUT_OFF.as_bytes() };
+        assert_eq!(answers(&right), [cut_off]);
+        let both = answers(&[&right, &b"\r\n"[..], &right, b"\r"].concat());
+        assert_eq!(both, [&answer[..], cut_off]);
         for refused in [b"\r\r\n".as_slice(), b"\r\r", b"\0", b"\0\n", b"\r \n", b"\n\r"] {
             let input = [&right, refused].concat();
             let last = answers(&input).pop().unwrap();
@@ -572,6 +619,86 @@ fn lines_end_where_the_manual_page_says() {
         }
     }
     counts.finish(SEEN_AT_ENDS);
+}
+
+/// A line that the command answers, in the forms in which people type it, with its end.
+fn ended_line(rng: &mut Rng, arguments: &[&str]) -> Vec<u8> {
+    let mut line = match call(arguments).command {
+        Command::WriteTelemetry => {
+            let report = random_telemetry(rng);
+            let mut line = typed_report(rng, &report);
+            line.insert(line.trim_ascii_end().len() - 1, b'0');
+            line
+        }
+        Command::Encode if rng.coin() => {
+            let message = random_message(rng);
+            typed_message(rng, &message)
+        }
+        _ => telemetry_line(rng),
+    };
+    line.extend_from_slice(if rng.coin() { b"\n" } else { b"\r\n" });
+    line
+}
+
+/// Every cut of a last line, behind a line that isn't cut. Those that would get another line's
+/// answer if a newline stood there are counted: without any the test would show little.
+#[test]
+fn a_message_or_report_that_is_cut_off_is_never_answered() {
+    let mut rng = Rng::new(14);
+    for arguments in [COMMANDS[0], COMMANDS[3], COMMANDS[4]] {
+        let mut would_mislead = 0;
+        for _ in 0..80 {
+            let line = ended_line(&mut rng, arguments);
+            let whole = wsprcard(arguments).run(&line);
+            assert_eq!(whole.status.code(), Some(0), "{}", line.escape_ascii());
+            for len in 1..line.len() {
+                let input = [&line, &line[..len]].concat();
+                let ended = wsprcard(arguments).run(&input);
+                let expected = [&whole.stdout, CUT_OFF.as_bytes()].concat();
+                assert_output(&input, &ended.stdout, &expected, 0);
+                assert_eq!(ended.status.code(), Some(1), "{}", input.escape_ascii());
+                let told = reference::run(&call(arguments), &joined([&line[..len]]));
+                would_mislead += u32::from(told.status == 0 && told.stdout != whole.stdout);
+            }
+        }
+        assert!(would_mislead >= 10, "{arguments:?}: {would_mislead} cuts only");
+    }
+}
+
+/// The same in JSON, and whatever the line holds, down to a single carriage return.
+#[test]
+fn a_line_that_is_cut_off_is_refused_whatever_it_holds() {
+    let in_json = r#"{"refusal":1,"place":0,"reason":"the line is cut off before its newline"}"#;
+    for arguments in [COMMANDS[0], COMMANDS[3], COMMANDS[4]] {
+        let right = right_line(arguments);
+        let long = [&right, &b" ".repeat(300)[..]].concat();
+        for line in
+            [&right[..], &long, b"0K0AAU AM36 3", b" ", b"\r", b"x", b"\0", b"k1abc FN20 37"]
+        {
+            let ended = wsprcard(arguments).run(line);
+            assert_eq!(String::from_utf8_lossy(&ended.stdout), CUT_OFF, "{arguments:?}");
+            assert_eq!(ended.status.code(), Some(1), "{arguments:?}");
+            let ended = wsprcard(&[arguments, &["--json"]].concat()).run(line);
+            let found = String::from_utf8_lossy(&ended.stdout).into_owned();
+            assert_eq!(found, format!("{in_json}\n"), "{arguments:?}");
+        }
+    }
+}
+
+/// Of a frame the length tells, and where only the newline is missing it is whole.
+#[test]
+fn a_frame_that_is_cut_off_is_refused_for_its_length() {
+    for arguments in [COMMANDS[1], COMMANDS[2]] {
+        let line = [&right_line(arguments), &b"\r\n"[..]].concat();
+        let whole = wsprcard(arguments).run(&line);
+        assert_eq!(whole.status.code(), Some(0), "{arguments:?}");
+        for len in 1..line.len() {
+            let ended = wsprcard(arguments).run(&line[..len]);
+            let too_short: &[u8] = b"refused 1 0: a frame has 162 symbols\n";
+            let expected = if len < FRAME_LEN { too_short } else { &whole.stdout };
+            assert_output(&line, &ended.stdout, expected, 0);
+        }
+    }
 }
 
 /// Lines of these lengths that start like a right one, between right ones and as the last. Among
@@ -1165,20 +1292,50 @@ fn frames_around(rng: &mut Rng, limit: usize) -> Vec<u8> {
     input
 }
 
-/// Flips, found by search, with which a frame has a live count of just the budget that holds
-/// unless one is given, and of one more.
+/// Flips, found by search, with which a frame has a live count of just a budget and of one more:
+/// of the largest, which holds where a larger limit than 2 is given alone, and of 16,000.
 #[test]
-fn the_budget_unless_given_is_16000() {
+fn a_budget_is_gone_through_to_its_end() {
     let frame = frame_of(word_of_line(TELEMETRY));
-    let within = flipped(frame, &[32, 57, 73, 76]);
-    assert_eq!(live_count(&within, 9), 16_000);
-    let ended = wsprcard(&["repair", "--limit", "9"]).run(&frame_line(&within));
-    let answer = String::from_utf8_lossy(&ended.stdout);
-    assert!(answer.ends_with("; disagreements 4; live 16000; sync wrong 0\n"), "{answer}");
-    let above = flipped(frame, &[1, 33, 145, 154]);
-    assert_eq!(live_count(&above, 8), 16_001);
-    let refused = "refused 16 0: the live count is above the budget";
-    assert_answer(&["repair", "--limit", "8"], &frame_line(&above), refused);
+    for (flips, limit, live, options) in [
+        (&[68, 109][..], 10, 65_536, &["--limit", "10"][..]),
+        (&[53, 68], 10, 65_537, &["--limit=10"]),
+        (&[32, 57, 73, 76], 9, 16_000, &["--limit=9", "--budget=16000"]),
+        (&[1, 33, 145, 154], 8, 16_001, &["--budget", "16000", "--limit", "8"]),
+    ] {
+        let frame = flipped(frame, flips);
+        assert_eq!(live_count(&frame, limit), live);
+        let arguments = [&["repair"], options].concat();
+        let ended = wsprcard(&arguments).run(&frame_line(&frame));
+        let answer = String::from_utf8_lossy(&ended.stdout);
+        let disagreements = flips.len();
+        let expected = match live {
+            16_000 | 65_536 => {
+                format!("; disagreements {disagreements}; live {live}; sync wrong 0\n")
+            }
+            _ => format!("refused {OVER_BUDGET}\n"),
+        };
+        assert!(answer.ends_with(&expected), "{arguments:?}: {answer}");
+    }
+}
+
+/// Up to limit 9 a clean frame is repaired without a budget, and from limit 10 on it is refused. At
+/// limits up to 2 no frame has a count that tells the usual budget, 16,000, from the largest: what
+/// is within 2 of any frame is within 4 of each other, and so at most the clean count at limit 4.
+#[test]
+fn every_limit_alone_repairs_what_the_largest_budget_can() {
+    let line = frame_line(&frame_of(word_of_line(TELEMETRY)));
+    for (limit, live) in CLEAN.into_iter().enumerate() {
+        let limit = limit.to_string();
+        let ended = wsprcard(&["repair", "--limit", &limit]).run(&line);
+        let answer = String::from_utf8_lossy(&ended.stdout);
+        let expected = match live {
+            0..=65_536 => format!("; disagreements 0; live {live}; sync wrong 0\n"),
+            _ => format!("refused {OVER_BUDGET}\n"),
+        };
+        assert!(answer.ends_with(&expected), "limit {limit}: {answer}");
+    }
+    assert!(CLEAN[4] < 16_000);
 }
 
 /// Options in any order and in both forms; of one that is given twice the last counts.
@@ -1202,9 +1359,10 @@ fn options_stand_in_any_order() {
         let twice_json = [&first_json[..], &["--json"]].concat();
         assert_ended(&twice_json, &input, &wsprcard(&twice_json).run(&input));
     }
-    check(&["telemetry", "--write", "--write"], REPORT);
+    let report = joined([REPORT]);
+    check(&["telemetry", "--write", "--write"], &report);
     let json_first = ["telemetry", "--json", "--write"];
-    assert_ended(&json_first, REPORT, &wsprcard(&json_first).run(REPORT));
+    assert_ended(&json_first, &report, &wsprcard(&json_first).run(&report));
 }
 
 // Calls
@@ -1367,7 +1525,7 @@ fn full() -> File {
 fn output_that_can_not_be_written_gives_status_3() {
     for arguments in COMMANDS {
         let (reader, mut writer) = io::pipe().unwrap();
-        writer.write_all(&right_line(arguments)).unwrap();
+        writer.write_all(&joined([right_line(arguments)])).unwrap();
         drop(writer);
         let ended = end_of(wsprcard(arguments).start(reader, full()));
         assert_eq!(ended.status.code(), Some(3), "{arguments:?}");

@@ -10,6 +10,9 @@ use std::collections::BTreeMap;
 /// A line with more bytes is refused, whatever it holds.
 const LONGEST_LINE: usize = 256;
 
+/// What has no form at all is refused so.
+const WRONG_FORM: Refusal = Refusal { number: 1, place: 0 };
+
 #[derive(Clone, Copy, Debug, PartialEq, Eq)]
 pub enum Command {
     Encode,
@@ -32,8 +35,17 @@ pub enum Answer {
     Encoded(Message, u64, [u8; FRAME_LEN]),
     Message(Message),
     Report(Telemetry),
-    /// The word's message, and the report in that: there is one to be told only of a message.
-    Repaired(Repaired, Result<(Message, Result<Telemetry, Refusal>), Refusal>),
+    Repaired(Repaired, Told),
+}
+
+/// A repaired word's message, and the report in that: there is one to be told only of a message.
+pub type Told = Result<(Message, Result<Telemetry, Refused>), Refused>;
+
+/// A refusal and the reason that is told.
+#[derive(Clone, Copy, Debug, PartialEq, Eq)]
+pub struct Refused {
+    pub refusal: Refusal,
+    pub reason: &'static str,
 }
 
 /// What the program prints, and its exit status.
@@ -49,7 +61,7 @@ pub fn run(call: &Call, input: &[u8]) -> Ended {
     let mut counts = Counts::default();
     for answer in answers(call, input) {
         counts.count(&answer);
-        stdout += &if call.json { json(call, &answer) } else { plain(call, &answer) };
+        stdout += &if call.json { json(&answer) } else { plain(&answer) };
         stdout.push('\n');
     }
     let status = i32::from(!counts.refused.is_empty());
@@ -65,7 +77,7 @@ pub fn call(arguments: &[&str]) -> Option<Call> {
     let mut json = false;
     let mut write = false;
     let mut limit = 2;
-    let mut budget = 16_000;
+    let mut budget = None;
     while let Some((option, rest)) = options.split_first() {
         options = rest;
         match (*name, *option) {
@@ -74,10 +86,11 @@ pub fn call(arguments: &[&str]) -> Option<Call> {
             ("repair", _) if option.starts_with("--limit") => {
                 limit = option_number(option, "--limit", &mut options)?;
             }
-            ("repair", _) => budget = option_number(option, "--budget", &mut options)?,
+            ("repair", _) => budget = Some(option_number(option, "--budget", &mut options)?),
             _ => return None,
         }
     }
+    let budget = budget.unwrap_or(if limit > 2 { 65_536 } else { 16_000 });
     let command = match *name {
         "encode" => Command::Encode,
         "read" => Command::Read,
@@ -108,24 +121,36 @@ fn option_number(option: &str, name: &str, options: &mut &[&str]) -> Option<u32>
 pub fn answers<'a>(
     call: &'a Call,
     input: &'a [u8],
-) -> impl Iterator<Item = Result<Answer, Refusal>> + 'a {
+) -> impl Iterator<Item = Result<Answer, Refused>> + 'a {
     input.split_inclusive(|&byte| byte == b'\n').map(|line| {
-        let line = line.strip_suffix(b"\n").unwrap_or(line);
+        let Some(line) = line.strip_suffix(b"\n").or_else(|| uncut(call.command, line)) else {
+            return Err(Refused { refusal: WRONG_FORM, reason: CUT_OFF });
+        };
         let line = line.strip_suffix(b"\r").unwrap_or(line);
-        if line.len() > LONGEST_LINE {
-            return Err(Refusal { number: 1, place: 0 });
-        }
-        answer(call.command, line)
+        answer(call.command, line).map_err(|refusal| refused(call.command, refusal))
     })
 }
 
+/// A last line without a newline, where the command takes it: only a frame's length tells whether
+/// some of it is missing.
+fn uncut(command: Command, line: &[u8]) -> Option<&[u8]> {
+    matches!(command, Command::Read | Command::Repair { .. }).then_some(line)
+}
+
+fn refused(command: Command, refusal: Refusal) -> Refused {
+    Refused { refusal, reason: reason(command, &refusal) }
+}
+
 fn answer(command: Command, line: &[u8]) -> Result<Answer, Refusal> {
+    if line.len() > LONGEST_LINE {
+        return Err(WRONG_FORM);
+    }
     match command {
         Command::Encode => encoded(line),
         Command::Read => {
             frame::read_message(&symbols(line), CALLSIGN_LEN, LOCATOR_LEN).map(Answer::Message)
         }
-        Command::Repair { limit, budget } => repaired(line, limit, budget),
+        Command::Repair { limit, budget } => repaired(command, line, limit, budget),
         Command::Telemetry => {
             let (callsign, locator, power) = message_in(line)?;
             telemetry::read(&callsign, locator, power).map(Answer::Report)
@@ -143,13 +168,14 @@ fn encoded(line: &[u8]) -> Result<Answer, Refusal> {
     Ok(Answer::Encoded(message, word, frame::write_word(word, FRAME_LEN)?))
 }
 
-fn repaired(line: &[u8], limit: u32, budget: u32) -> Result<Answer, Refusal> {
+fn repaired(command: Command, line: &[u8], limit: u32, budget: u32) -> Result<Answer, Refusal> {
     let repaired = repair::repair(&symbols(line), limit, budget)?;
     let message = message::unpack(repaired.word, CALLSIGN_LEN, LOCATOR_LEN);
     let with_report = message.map(|message| {
-        (message, telemetry::read(&message.callsign, &message.locator, message.power))
+        let report = telemetry::read(&message.callsign, &message.locator, message.power);
+        (message, report.map_err(|refusal| refused(command, refusal)))
     });
-    Ok(Answer::Repaired(repaired, with_report))
+    Ok(Answer::Repaired(repaired, with_report.map_err(|refusal| refused(command, refusal))))
 }
 
 /// What isn't a digit 0 to 3 is a symbol above 3.
@@ -162,7 +188,7 @@ fn message_in(line: &[u8]) -> Result<(Vec<u8>, &[u8], u32), Refusal> {
     let (rest, power) = last_field(line);
     let (callsign, locator) = last_field(rest);
     if callsign.is_empty() || callsign.len() > CALLSIGN_LEN || locator.len() != LOCATOR_LEN {
-        return Err(Refusal { number: 1, place: 0 });
+        return Err(WRONG_FORM);
     }
     Ok((callsign_field(callsign), locator, number(power).unwrap_or(u32::MAX)))
 }
@@ -197,7 +223,7 @@ fn report_in(line: &[u8]) -> Result<Telemetry, Refusal> {
     let fields = line.split(|&byte| byte == b' ').filter(|field| !field.is_empty());
     let fields: Vec<&[u8]> = fields.take(8).collect();
     let [channel, subsquare, altitude, temperature, voltage, speed, gps] = fields[..] else {
-        return Err(Refusal { number: 1, place: 0 });
+        return Err(WRONG_FORM);
     };
     let [first, third] = channel.try_into().unwrap_or_default();
     let [grid5, grid6] = subsquare.try_into().unwrap_or_default();
@@ -243,29 +269,25 @@ fn signed_tenths(field: &[u8]) -> Option<i32> {
 
 // Plain text
 
-fn plain(call: &Call, answer: &Result<Answer, Refusal>) -> String {
+fn plain(answer: &Result<Answer, Refused>) -> String {
     match answer {
-        Err(refusal) => plain_refusal(call, refusal),
+        Err(refused) => plain_refusal(refused),
         Ok(Answer::Encoded(_, _, frame)) => digits(frame),
         Ok(Answer::Message(message)) => plain_message(message),
         Ok(Answer::Report(report)) => plain_report(report),
-        Ok(Answer::Repaired(repaired, told)) => plain_repair(call, repaired, told),
+        Ok(Answer::Repaired(repaired, told)) => plain_repair(repaired, told),
     }
 }
 
-fn plain_repair(
-    call: &Call,
-    repaired: &Repaired,
-    told: &Result<(Message, Result<Telemetry, Refusal>), Refusal>,
-) -> String {
+fn plain_repair(repaired: &Repaired, told: &Told) -> String {
     let Repaired { word, disagreements, live, sync_wrong } = repaired;
     let told = match told {
-        Err(refusal) => plain_refusal(call, refusal),
+        Err(refused) => plain_refusal(refused),
         Ok((message, Ok(report))) => {
             format!("{}; telemetry {}", plain_message(message), plain_report(report))
         }
-        Ok((message, Err(refusal))) => {
-            format!("{}; telemetry {}", plain_message(message), plain_refusal(call, refusal))
+        Ok((message, Err(refused))) => {
+            format!("{}; telemetry {}", plain_message(message), plain_refusal(refused))
         }
     };
     format!(
@@ -285,9 +307,9 @@ fn plain_report(report: &Telemetry) -> String {
     format!("{channel} {subsquare} {altitude} {temperature} {voltage} {speed} {gps}")
 }
 
-fn plain_refusal(call: &Call, refusal: &Refusal) -> String {
-    let Refusal { number, place } = refusal;
-    format!("refused {number} {place}: {}", reason(call.command, refusal))
+fn plain_refusal(refused: &Refused) -> String {
+    let Refused { refusal: Refusal { number, place }, reason } = refused;
+    format!("refused {number} {place}: {reason}")
 }
 
 fn digits(frame: &[u8]) -> String {
@@ -300,31 +322,27 @@ fn text(characters: &[u8]) -> String {
 
 // JSON
 
-fn json(call: &Call, answer: &Result<Answer, Refusal>) -> String {
+fn json(answer: &Result<Answer, Refused>) -> String {
     match answer {
-        Err(refusal) => json_refusal(call, refusal),
+        Err(refused) => json_refusal(refused),
         Ok(Answer::Encoded(message, word, frame)) => {
             let members = message_members(message);
             format!(r#"{{{members},"word":"{word:013x}","frame":"{}"}}"#, digits(frame))
         }
         Ok(Answer::Message(message)) => format!("{{{}}}", message_members(message)),
         Ok(Answer::Report(report)) => json_report(report),
-        Ok(Answer::Repaired(repaired, told)) => json_repair(call, repaired, told),
+        Ok(Answer::Repaired(repaired, told)) => json_repair(repaired, told),
     }
 }
 
-fn json_repair(
-    call: &Call,
-    repaired: &Repaired,
-    told: &Result<(Message, Result<Telemetry, Refusal>), Refusal>,
-) -> String {
+fn json_repair(repaired: &Repaired, told: &Told) -> String {
     let Repaired { word, disagreements, live, sync_wrong } = repaired;
     let told = match told {
-        Err(refusal) => json_refusal(call, refusal),
+        Err(refused) => json_refusal(refused),
         Ok((message, report)) => {
             let report = match report {
                 Ok(report) => json_report(report),
-                Err(refusal) => json_refusal(call, refusal),
+                Err(refused) => json_refusal(refused),
             };
             format!(r#"{{{}}},"telemetry":{report}"#, message_members(message))
         }
@@ -348,15 +366,17 @@ fn json_report(report: &Telemetry) -> String {
     )
 }
 
-fn json_refusal(call: &Call, refusal: &Refusal) -> String {
-    let Refusal { number, place } = refusal;
-    let reason = reason(call.command, refusal);
+fn json_refusal(refused: &Refused) -> String {
+    let Refused { refusal: Refusal { number, place }, reason } = refused;
     format!(r#"{{"refusal":{number},"place":{place},"reason":"{reason}"}}"#)
 }
 
 // Reasons
 
-/// Why a line of this command is refused so. Refusal 1 depends on what its lines are.
+/// Why a last line without a newline is refused, where it is for that.
+pub const CUT_OFF: &str = "the line is cut off before its newline";
+
+/// Why any other line of this command is refused so. Refusal 1 depends on what its lines are.
 pub fn reason(command: Command, refusal: &Refusal) -> &'static str {
     match (refusal.number, refusal.place) {
         (1, _) => wrong_form(command),
@@ -364,7 +384,7 @@ pub fn reason(command: Command, refusal: &Refusal) -> &'static str {
         (3, _) => "the power isn't one of the 19",
         (4, _) => "the callsign's number in the word is 262177560 or more",
         (5, _) => "the locator's number in the word is 32400 or more",
-        (6, _) => "the power in the word isn't one of the 19",
+        (6, _) => "the power in the word isn't one of the 19: most often a type 2 or 3 message",
         (7, _) => "the symbol isn't 0 to 3",
         (8, _) => "the symbol's sync bit is wrong",
         (9, _) => "no word has this frame",
@@ -376,7 +396,9 @@ pub fn reason(command: Command, refusal: &Refusal) -> &'static str {
         (14, place) => wrong_reading(place),
         (15, 0) => "the limit isn't 0 to 12",
         (15, _) => "the budget isn't 1 to 65536",
-        (16, _) => "the live count is above the budget",
+        (16, _) => {
+            "the live count is above the budget: try a larger one, up to 65536, or a smaller limit"
+        }
         (17, _) => "no word is within the limit",
         (18, _) => "two or more words share the fewest disagreements",
         _ => panic!("no refusal is {refusal:?}"),
@@ -429,9 +451,9 @@ struct Counts {
 }
 
 impl Counts {
-    fn count(&mut self, answer: &Result<Answer, Refusal>) {
+    fn count(&mut self, answer: &Result<Answer, Refused>) {
         match answer {
-            Err(refusal) => *self.refused.entry(refusal.number).or_default() += 1,
+            Err(refused) => *self.refused.entry(refused.refusal.number).or_default() += 1,
             Ok(answer) => {
                 self.answered += 1;
                 let Answer::Repaired(_, told) = answer else { return };

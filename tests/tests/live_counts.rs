@@ -1,0 +1,74 @@
+// The table of live counts by limit in README.md, the manual page, the help of `wsprcard repair`
+// and the header, and what is said to follow from it, held to counts of the independent
+// implementation.
+use std::fs;
+
+use wsprcard_tests::child::{in_repository, Program};
+use wsprcard_tests::reference::frame::frame_of;
+use wsprcard_tests::reference::repair::{live_count, LARGEST_BUDGET};
+use wsprcard_tests::rng::Rng;
+
+/// The budget of `wsprcard repair` unless one is given.
+const USUAL_BUDGET: u32 = 16_000;
+
+const LIMITS: std::ops::RangeInclusive<u64> = 0..=12;
+
+/// The places that have the table, and their text.
+fn texts() -> Vec<(&'static str, String)> {
+    let mut texts = ["README.md", "host/wsprcard.1", "include/wsprcard.h"]
+        .map(|path| (path, fs::read_to_string(in_repository(path)).unwrap()))
+        .to_vec();
+    let help = Program::new("build/wsprcard", "make", &["repair", "--help"]).run(b"").stdout;
+    texts.push(("wsprcard repair --help", String::from_utf8(help).unwrap()));
+    texts
+}
+
+/// The live counts of a clean frame, the same for any word's.
+fn clean_counts() -> Vec<u64> {
+    let word = Rng::new(1).below(1 << 50);
+    let [of_zero, of_word] = [0, word]
+        .map(|word| LIMITS.map(|limit| live_count(&frame_of(word), limit as u32)).collect());
+    assert_eq!(of_zero, of_word, "{word:#x}");
+    of_zero
+}
+
+/// The numbers of a line, with commas between their thousands or without.
+fn numbers_in(line: &str) -> Vec<u64> {
+    line.replace(',', "").split(|c: char| !c.is_ascii_digit()).flat_map(str::parse).collect()
+}
+
+/// Each text has one table: a row of the limits, and in the next row with numbers the counts.
+#[test]
+fn the_tables_hold_the_counts_of_clean_frames() {
+    let limits: Vec<u64> = LIMITS.collect();
+    let counts = clean_counts();
+    for (name, text) in texts() {
+        let rows: Vec<_> = text.lines().map(numbers_in).filter(|row| !row.is_empty()).collect();
+        let tables = rows.windows(2).filter(|pair| pair[0] == limits).map(|pair| &pair[1]);
+        assert_eq!(tables.collect::<Vec<_>>(), [&counts], "{name}");
+    }
+}
+
+/// The text in one line, without the asterisks of a comment and without commas in numbers.
+fn in_one_line(text: &str) -> String {
+    let words = text.split_whitespace().filter(|&word| word != "*");
+    words.collect::<Vec<_>>().join(" ").replace("16,000", "16000").replace("65,536", "65536")
+}
+
+#[test]
+fn the_texts_say_what_follows_from_the_counts() {
+    let counts = clean_counts();
+    let last_within =
+        |budget: u32| counts.iter().rposition(|&count| count <= u64::from(budget)).unwrap();
+    let (usual, largest) = (last_within(USUAL_BUDGET), last_within(LARGEST_BUDGET));
+    let said = format!(
+        "A budget below the live count refuses even a clean frame (16): with a budget of \
+         {USUAL_BUDGET} limits up to {usual} can answer, with {LARGEST_BUDGET} limits up to \
+         {largest}, and limits {} to 12 refuse every clean frame whatever the budget. So use \
+         limits up to {largest}. A frame with flipped data bits can have another live count.",
+        largest + 1
+    );
+    for (name, text) in texts() {
+        assert!(in_one_line(&text).contains(&said), "{name} doesn't say: {said}");
+    }
+}
