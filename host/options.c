@@ -50,9 +50,9 @@ static const struct {
     "  live  81 81 131 279 569 1573 3495 7611 17851 42557 97265 222823 514948\n" \
     "\n" \
     "A budget below the live count refuses even a clean frame (16): with a budget of\n" \
-    "16000 limits up to 7 can answer, with 65536 limits up to 9, and limits 10 to 12\n" \
-    "refuse every clean frame whatever the budget. So use limits up to 9. A frame\n" \
-    "with flipped data bits can have another live count.\n"
+    "16000 a clean frame is answered at limits up to 7, with 65536 at limits up to 9,\n" \
+    "and at limits 10 to 12 with none. So use limits up to 9. A frame with flipped\n" \
+    "data bits can have a lower or a higher live count.\n"
 #define REPORT_HELP \
     "A report is channel, sub-square, metres, degrees, millivolts, knots and GPS,\n" \
     "as Q2 SK 12340 -15 4100 30 1.\n"

@@ -140,9 +140,9 @@ wspr_message wspr_read_message(const uint8_t *frame, size_t frame_len, uint8_t *
  *   limit  0  1   2   3   4     5     6     7      8      9     10      11      12
  *   live  81 81 131 279 569 1,573 3,495 7,611 17,851 42,557 97,265 222,823 514,948
  *
- * A budget below the live count refuses even a clean frame (16): with a budget of 16,000 limits up to 7 can answer,
- * with 65,536 limits up to 9, and limits 10 to 12 refuse every clean frame whatever the budget. So use limits up to 9.
- * A frame with flipped data bits can have another live count.
+ * A budget below the live count refuses even a clean frame (16): with a budget of 16,000 a clean frame is answered at
+ * limits up to 7, with 65,536 at limits up to 9, and at limits 10 to 12 with none. So use limits up to 9. A frame with
+ * flipped data bits can have a lower or a higher live count.
  *
  * Refusals 1, 15, 7, 16, 17, 18, in that order. Sync bits never refuse a repair: the wrong ones are counted. Whichever
  * word was sent, and whichever of its frame's data bits were flipped, two at most, limit 2 and budget 16,000 give it

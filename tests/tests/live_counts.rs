@@ -63,9 +63,9 @@ fn the_texts_say_what_follows_from_the_counts() {
     let (usual, largest) = (last_within(USUAL_BUDGET), last_within(LARGEST_BUDGET));
     let said = format!(
         "A budget below the live count refuses even a clean frame (16): with a budget of \
-         {USUAL_BUDGET} limits up to {usual} can answer, with {LARGEST_BUDGET} limits up to \
-         {largest}, and limits {} to 12 refuse every clean frame whatever the budget. So use \
-         limits up to {largest}. A frame with flipped data bits can have another live count.",
+         {USUAL_BUDGET} a clean frame is answered at limits up to {usual}, with {LARGEST_BUDGET} \
+         at limits up to {largest}, and at limits {} to 12 with none. So use limits up to \
+         {largest}. A frame with flipped data bits can have a lower or a higher live count.",
         largest + 1
     );
     for (name, text) in texts() {

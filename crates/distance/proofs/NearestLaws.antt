@@ -8,7 +8,7 @@ use borrow.Author.Tests.{eq-eqb, eqb-true}
 use Rattle.basics.proofs.BelowLaws.{count-two, count-only, count-found-two, count-single, last-single, least-below, least-reached}
 use Rattle.basics.proofs.Choice.{below-or-not, equal-or-not}
 use Rattle.distance.specs.Prefixes.{wordDisagreements}
-use Rattle.distance.specs.Nearest.{fewest, hasFewest, sharing, nearest, AtMostAll, OnlyNearest}
+use Rattle.distance.specs.Nearest.{fewest, hasFewest, sharing, nearestWord, AtMostAll, OnlyNearest}
 
 module _ (received : List ℕ) where
   -- ---- The fewest
@@ -57,13 +57,13 @@ module _ (received : List ℕ) where
     unfolding sharing
     sharing-only = count-single (2 ^ 50) (hasFewest received) word (only .0) (has-fewest word at-most) no-other
 
-    pub nearest-only : nearest received ≡ word
-    unfolding nearest
+    pub nearest-only : nearestWord received ≡ word
+    unfolding nearestWord
     nearest-only = last-single (2 ^ 50) (hasFewest received) word (only .0) (has-fewest word at-most) no-other
 
   -- ---- Where one alone has the fewest
 
-  pub only-nearest : sharing received ≤ 1 → OnlyNearest received (nearest received)
+  pub only-nearest : sharing received ≤ 1 → OnlyNearest received (nearestWord received)
   unfolding sharing
   only-nearest one = rw (nearest-only found only) only
     where

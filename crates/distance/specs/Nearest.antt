@@ -20,8 +20,8 @@ unfoldable pub sharing : List ℕ → ℕ
 sharing received = countBelow (2 ^ 50) (hasFewest received)
 
 -- The last word that has them: where only one does, that one (`nearest-only`, `only-nearest` of proofs/NearestLaws.antt).
-unfoldable pub nearest : List ℕ → ℕ
-nearest received = lastBelow (2 ^ 50) (hasFewest received)
+unfoldable pub nearestWord : List ℕ → ℕ
+nearestWord received = lastBelow (2 ^ 50) (hasFewest received)
 
 -- The word has "the fewest disagreements of all 2^50".
 abbrev pub AtMostAll : List ℕ → ℕ → Type 0

@@ -20,7 +20,7 @@ use Rattle.convolution.proofs.DecodingLaws.{decode-encode}
 use Rattle.interleaver.specs.Places.{placeOf, indexAt}
 use Rattle.interleaver.proofs.PlaceLaws.{placeOf-below, indexAt-below, indexAt-placeOf, placeOf-indexAt}
 use Rattle.frame.specs.Symbols.{syncVector, syncAt, symbolAt, frameOf, RightSymbols, receivedBits, synced, unsyncedAt, wrongSyncIn}
-use Rattle.frame.specs.Answer.{small, firstLarge, firstWrongSync}
+use Rattle.frame.specs.Answer.{isSymbol, firstLarge, firstWrongSync}
 use Rattle.frame.specs.RoundTrip.{RightForm}
 
 -- ---- Symbols
@@ -124,7 +124,7 @@ module _ (frame : List ℕ) where
   symbols-of-test e large =
       record {
         right-length = e;
-        symbols-to-3 = λ place h. leb-true _ _ (passes-at small 0 frame (rw e large) place (omega arith));
+        symbols-to-3 = λ place h. leb-true _ _ (passes-at isSymbol 0 frame (rw e large) place (omega arith));
       }
 
   pub form-of-tests : length frame ≡ 162 → 162 ≤ firstLarge frame → 162 ≤ firstWrongSync frame → RightForm frame
@@ -139,7 +139,7 @@ module _ (frame : List ℕ) where
   pub none-large : RightSymbols frame → firstLarge frame ≡ 162
   unfolding firstLarge
   none-large right =
-      passes-each small 0 frame (λ place h. le-leb _ _ (right .symbols-to-3 place (omega (arith, right .right-length)))) ∙ right .right-length
+      passes-each isSymbol 0 frame (λ place h. le-leb _ _ (right .symbols-to-3 place (omega (arith, right .right-length)))) ∙ right .right-length
 
   pub none-wrong : RightForm frame → firstWrongSync frame ≡ 162
   unfolding firstWrongSync

@@ -49,11 +49,11 @@ frameAfterMessage callsign locator power frame =
 -- ---- Strict reading to the word: "strict frame 1, 7, 8, 9"
 
 -- "a symbol is above 3": the first such.
-abbrev pub small : ℕ → ℕ → Bool
-small place symbol = leb symbol 3
+abbrev pub isSymbol : ℕ → ℕ → Bool
+isSymbol place symbol = leb symbol 3
 
 unfoldable pub firstLarge : List ℕ → ℕ
-firstLarge frame = firstFailing small 0 frame
+firstLarge frame = firstFailing isSymbol 0 frame
 
 -- "a sync bit is wrong": the first such.
 unfoldable pub firstWrongSync : List ℕ → ℕ

@@ -13,7 +13,7 @@ use Rattle.refusal.specs.Refusals.{refusal, wrongLength, badCharacter, badPower
 use Rattle.message.specs.Character.{firstBad, legalAt}
 use Rattle.power.specs.Powers.{legalPower}
 use Rattle.message.specs.Word.{wordOf, callsignPart, locatorPart, powerPart}
-use Rattle.message.specs.Answer.{rightLengths, checked, wordIf, packed, wordMessage, unpacked, wordNumbers, messageNumbers}
+use Rattle.message.specs.Answer.{rightLengths, checked, wordIfLegal, packed, wordMessage, unpacked, wordNumbers, messageNumbers}
 use Rattle.message.specs.declared.CheckAnswer.{CheckAnswer}
 use Rattle.message.specs.declared.WordAnswer.{WordAnswer}
 use Rattle.message.specs.declared.MessageAnswer.{MessageAnswer}
@@ -63,11 +63,11 @@ module _ (callsign locator : List ℕ) (power : ℕ) where
   -- ---- The cases of packing it
 
   pub packed-refused : (f : Refusal) → checked callsign locator power ≡ CheckAnswer.Refused f → packed callsign locator power ≡ WordAnswer.Refused f
-  unfolding packed wordIf
+  unfolding packed wordIfLegal
   packed-refused f e = rw e
 
   pub packed-word : checked callsign locator power ≡ CheckAnswer.Legal → packed callsign locator power ≡ WordAnswer.Word (wordOf callsign locator power)
-  unfolding packed wordIf
+  unfolding packed wordIfLegal
   packed-word e = rw e
 
 -- The characters of a message that is packed, part by part.
@@ -202,9 +202,9 @@ checked-nonzero callsign locator power =
     (cond-both Nonzero (ltb bad 10) (λ f e z. let n : badCharacter ≡ f .number = cc in omega arith)
     (cond-both Nonzero (not (legalPower power)) (λ f e z. let n : badPower ≡ f .number = cc in omega arith) (λ f e z. refused-not-legal f (sym e))))
 
-word-answered : (answer : CheckAnswer) (word : ℕ) → Nonzero answer → wordNumbers (wordIf answer word) .number ≡ 0
-    → wordIf answer word ≡ WordAnswer.Word (wordNumbers (wordIf answer word) .word)
-unfolding Nonzero wordIf wordNumbers
+word-answered : (answer : CheckAnswer) (word : ℕ) → Nonzero answer → wordNumbers (wordIfLegal answer word) .number ≡ 0
+    → wordIfLegal answer word ≡ WordAnswer.Word (wordNumbers (wordIfLegal answer word) .word)
+unfolding Nonzero wordIfLegal wordNumbers
 word-answered CheckAnswer.Legal word h z = refl
 word-answered (CheckAnswer.Refused f) word h z = absurd (h f refl z)
 

@@ -30,12 +30,12 @@ checked callsign locator power =
 -- ---- From a message to its word
 
 -- The word where the message is legal, else its refusal.
-unfoldable pub wordIf : CheckAnswer → ℕ → WordAnswer
-wordIf CheckAnswer.Legal word = WordAnswer.Word word
-wordIf (CheckAnswer.Refused f) word = WordAnswer.Refused f
+unfoldable pub wordIfLegal : CheckAnswer → ℕ → WordAnswer
+wordIfLegal CheckAnswer.Legal word = WordAnswer.Word word
+wordIfLegal (CheckAnswer.Refused f) word = WordAnswer.Refused f
 
 unfoldable pub packed : List ℕ → List ℕ → ℕ → WordAnswer
-packed callsign locator power = wordIf (checked callsign locator power) (wordOf callsign locator power)
+packed callsign locator power = wordIfLegal (checked callsign locator power) (wordOf callsign locator power)
 
 -- ---- From a word to its message: "word 1 (if a buffer is lent), 4, 5, 6"
 

@@ -93,7 +93,7 @@ pub fn unpack(word: u64, callsign: &mut [u8], locator: &mut [u8]) -> MessageAnsw
             place: 0,
         });
     }
-    let answer = word::read_word(word);
+    let answer = word::power_of(word);
     let MessageAnswer::Power(power) = answer else {
         return answer;
     };

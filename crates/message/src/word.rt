@@ -73,7 +73,7 @@ fn locator_part(word: u64) -> u64
 
 // The power of a word that is a message's, or why it isn't. A word of 2^50 or more has a callsign
 // number past the end too, so that one test serves for both.
-pub(crate) fn read_word(word: u64) -> MessageAnswer
+pub(crate) fn power_of(word: u64) -> MessageAnswer
     ensures { λ r. ⌜ r ≡ wordMessage word ⌝ }
 {
     if CALLSIGNS <= callsign_part(word) {

@@ -11,9 +11,9 @@ use Rattle.refusal.specs.Refusals.{refusal, overBudget, noneWithinLimit, shared
 use Rattle.frame.specs.Symbols.{RightSymbols, receivedBits}
 use Rattle.frame.proofs.SymbolLaws.{none-large}
 use Rattle.distance.specs.Prefixes.{liveCount}
-use Rattle.distance.specs.Nearest.{fewest, sharing, nearest}
+use Rattle.distance.specs.Nearest.{fewest, sharing, nearestWord}
 use Rattle.distance.proofs.NearestLaws.{fewest-below, fewest-reached, fewest-is, fewest-only, sharing-only, nearest-only, only-nearest, sharing-two, two-sharing}
-use Rattle.repair.specs.Answer.{answerWith, nearestOf, nearestWithin, searched, repaired, repairNumbers}
+use Rattle.repair.specs.Answer.{nearestWith, nearestOf, nearestWithin, searched, repaired, repairNumbers}
 use Rattle.repair.specs.Demand.{Bounds, IsNearest, NoneWithin, Shared, AsDemanded}
 use Rattle.repair.specs.declared.Nearest.{Nearest}
 use Rattle.repair.specs.declared.RepairAnswer.{RepairAnswer}
@@ -108,19 +108,19 @@ module _ (frame : List ℕ) (limit budget : ℕ) where
   -- ---- The nearest word
 
   nearestOf-is : fewest received ≤ limit → sharing received ≤ 1 → IsNearest frame limit (nearestOf frame limit)
-  unfolding nearestOf answerWith
+  unfolding nearestOf nearestWith
   nearestOf-is near one =
       let only = only-nearest received one in
       record {
         only-nearest = only;
-        its-disagreements = fewest-only received (nearest received) only;
+        its-disagreements = fewest-only received (nearestWord received) only;
         within-limit = near;
         live-count = refl;
         wrong-sync = refl;
       }
 
   is-nearestOf : (n : Nearest) → IsNearest frame limit n → nearestOf frame limit ≡ n
-  unfolding nearestOf answerWith
+  unfolding nearestOf nearestWith
   is-nearestOf n is =
       let only = is .only-nearest in
       let few = fewest-only received (n .word) only in

@@ -11,7 +11,7 @@ use Rattle.basics.proofs.ListLaws.{fails-at, passes-before-first}
 use Rattle.refusal.specs.declared.Refusal.{Refusal}
 use Rattle.refusal.specs.Refusals.{refusal, wrongLength, symbolTooLarge, badBound}
 use Rattle.frame.specs.Symbols.{RightSymbols}
-use Rattle.frame.specs.Answer.{small, firstLarge}
+use Rattle.frame.specs.Answer.{isSymbol, firstLarge}
 use Rattle.frame.proofs.SymbolLaws.{symbols-of-test}
 use Rattle.repair.specs.Answer.{firstBadBound, searched, repaired, repairNumbers}
 use Rattle.repair.specs.Demand.{Bounds, FirstLargeAt, AsChecked}
@@ -27,8 +27,8 @@ module _ (frame : List ℕ) where
   first-large h =
       record {
         within = h;
-        large = leb-false _ _ (fails-at small 0 frame h);
-        none-before = λ earlier k. leb-true _ _ (passes-before-first small 0 frame h earlier k);
+        large = leb-false _ _ (fails-at isSymbol 0 frame h);
+        none-before = λ earlier k. leb-true _ _ (passes-before-first isSymbol 0 frame h earlier k);
       }
 
   -- There is one such place only.

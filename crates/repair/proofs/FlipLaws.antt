@@ -18,7 +18,7 @@ use Rattle.distance.specs.Nearest.{OnlyNearest}
 use Rattle.distance.proofs.Bits.{differences-sym, differences-counted}
 use Rattle.distance.proofs.PrefixLaws.{word-disagreements}
 use Rattle.distance.proofs.ZeroWord.{flipped-most, others-further}
-use Rattle.repair.specs.Answer.{answerWith, repaired}
+use Rattle.repair.specs.Answer.{nearestWith, repaired}
 use Rattle.repair.specs.Demand.{Bounds, IsNearest, flippedAt, flips, givenBack, TwoFlipsRepaired}
 use Rattle.repair.specs.declared.RepairAnswer.{RepairAnswer}
 use Rattle.repair.proofs.AnswerLaws.{demanded}
@@ -56,7 +56,7 @@ module _ (word : ℕ) (frame : List ℕ) where
     others-more = (h, λ other k different. omega (arith, others-further received other word (length-receivedBits frame) k h different, flips-disagreements))
 
     given-back-is : IsNearest frame 2 (givenBack word frame 2)
-    unfolding givenBack answerWith
+    unfolding givenBack nearestWith
     given-back-is =
         record { only-nearest = others-more; its-disagreements = flips-disagreements; within-limit = few; live-count = refl; wrong-sync = refl }
 

@@ -10,7 +10,7 @@ use Rattle.refusal.specs.Refusals.{refusal, wrongLength, symbolTooLarge, badBou
 use Rattle.frame.specs.Symbols.{receivedBits, wrongSyncIn}
 use Rattle.frame.specs.Answer.{firstLarge}
 use Rattle.distance.specs.Prefixes.{liveCount}
-use Rattle.distance.specs.Nearest.{fewest, sharing, nearest}
+use Rattle.distance.specs.Nearest.{fewest, sharing, nearestWord}
 use Rattle.repair.specs.declared.Nearest.{Nearest}
 use Rattle.repair.specs.declared.RepairAnswer.{RepairAnswer}
 
@@ -20,18 +20,16 @@ firstBadBound limit budget = firstFalse (leb limit 12 ∷ between 1 65_536 budge
 
 -- "The answer holds the word, its disagreements, the live count, and the number of the 162 symbols whose sync bit (symbol modulo 2) is
 -- wrong."
-unfoldable pub answerWith : List ℕ → ℕ → ℕ → ℕ → Nearest
-answerWith frame limit word disagreements =
-    record {
-      word = word;
-      disagreements = disagreements;
-      live = liveCount (receivedBits frame) limit;
-      «sync_wrong» = wrongSyncIn frame;
-    }
+abbrev pub nearestFrom : ℕ → ℕ → ℕ → ℕ → Nearest
+nearestFrom word disagreements live wrong = record { word = word; disagreements = disagreements; live = live; «sync_wrong» = wrong }
+
+-- A word with its disagreements, and what else the answer holds.
+unfoldable pub nearestWith : List ℕ → ℕ → ℕ → ℕ → Nearest
+nearestWith frame limit word disagreements = nearestFrom word disagreements (liveCount (receivedBits frame) limit) (wrongSyncIn frame)
 
 -- "The word is the one with the fewest disagreements of all 2^50."
 unfoldable pub nearestOf : List ℕ → ℕ → Nearest
-nearestOf frame limit = answerWith frame limit (nearest (receivedBits frame)) (fewest (receivedBits frame))
+nearestOf frame limit = nearestWith frame limit (nearestWord (receivedBits frame)) (fewest (receivedBits frame))
 
 -- The one word with the fewest disagreements where these are at most the limit, or why there is none. If the fewest lie above the limit,
 -- 17 is given, shared or not.
@@ -65,7 +63,7 @@ pub record RepairNumbers : Type 0 where
   pub nearest : Nearest
 
 unfoldable pub noNearest : Nearest
-noNearest = record { word = 0; disagreements = 0; live = 0; «sync_wrong» = 0 }
+noNearest = nearestFrom 0 0 0 0
 
 unfoldable pub repairNumbers : RepairAnswer → RepairNumbers
 repairNumbers (RepairAnswer.Word n) = record { number = 0; place = 0; nearest = n }

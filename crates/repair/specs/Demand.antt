@@ -12,7 +12,7 @@ use Rattle.refusal.specs.Refusals.{refusal, wrongLength, symbolTooLarge, badBou
 use Rattle.frame.specs.Symbols.{frameOf, RightSymbols, dataAt, receivedBits, wrongSyncIn}
 use Rattle.distance.specs.Prefixes.{wordDisagreements, liveCount}
 use Rattle.distance.specs.Nearest.{AtMostAll, OnlyNearest}
-use Rattle.repair.specs.Answer.{answerWith}
+use Rattle.repair.specs.Answer.{nearestWith}
 use Rattle.repair.specs.declared.Nearest.{Nearest}
 use Rattle.repair.specs.declared.RepairAnswer.{RepairAnswer}
 
@@ -39,18 +39,18 @@ pub record AsChecked (frame : List ℕ) (limit budget : ℕ) (answer : RepairAns
   pub bad-budget : (answer ≡ RepairAnswer.Refused (refusal badBound 1))
       ↔ ((length frame ≡ 162) × ((limit ≤ 12) × ((budget ≡ 0) ⊎ (65_536 < budget))))
   -- "a symbol is above 3": the first such
-  pub large-symbol : (place : ℕ) → (answer ≡ RepairAnswer.Refused (refusal symbolTooLarge place))
-      ↔ ((length frame ≡ 162) × (Bounds limit budget × FirstLargeAt frame place))
+  pub large-symbol : (place : ℕ)
+      → ((answer ≡ RepairAnswer.Refused (refusal symbolTooLarge place)) ↔ ((length frame ≡ 162) × (Bounds limit budget × FirstLargeAt frame place)))
 
 -- ---- What is answered
 
 -- "The answer is that word, with its disagreements and the live count: every other 50-bit word has more disagreements."
-pub record IsNearest (frame : List ℕ) (limit : ℕ) (answer : Nearest) : Type 0 where
-  pub only-nearest : OnlyNearest (receivedBits frame) (answer .word)
-  pub its-disagreements : answer .disagreements ≡ wordDisagreements (receivedBits frame) (answer .word)
-  pub within-limit : answer .disagreements ≤ limit
-  pub live-count : answer .live ≡ liveCount (receivedBits frame) limit
-  pub wrong-sync : answer .«sync_wrong» ≡ wrongSyncIn frame
+pub record IsNearest (frame : List ℕ) (limit : ℕ) (nearest : Nearest) : Type 0 where
+  pub only-nearest : OnlyNearest (receivedBits frame) (nearest .word)
+  pub its-disagreements : nearest .disagreements ≡ wordDisagreements (receivedBits frame) (nearest .word)
+  pub within-limit : nearest .disagreements ≤ limit
+  pub live-count : nearest .live ≡ liveCount (receivedBits frame) limit
+  pub wrong-sync : nearest .«sync_wrong» ≡ wrongSyncIn frame
 
 -- "no word within the limit"
 abbrev pub NoneWithin : List ℕ → ℕ → Type 0
@@ -72,7 +72,7 @@ pub record Demanded (frame : List ℕ) (limit budget : ℕ) (answer : RepairAnsw
   -- "Otherwise it answers exactly when one single 50-bit word has the fewest disagreements with those symbols, and these are at most the
   -- limit."
   pub answered : (nearest : Nearest)
-      → (answer ≡ RepairAnswer.Word nearest) ↔ ((liveCount (receivedBits frame) limit ≤ budget) × IsNearest frame limit nearest)
+      → ((answer ≡ RepairAnswer.Word nearest) ↔ ((liveCount (receivedBits frame) limit ≤ budget) × IsNearest frame limit nearest))
   -- Where there is no such word, 01's table says why.
   pub none-within : (answer ≡ RepairAnswer.Refused (refusal noneWithinLimit 0))
       ↔ ((liveCount (receivedBits frame) limit ≤ budget) × NoneWithin (receivedBits frame) limit)
@@ -95,7 +95,7 @@ flips word frame = countBelow 162 (flippedAt word frame)
 
 -- The sent word, "with the number of flipped bits as its disagreements", and what else the answer holds.
 unfoldable pub givenBack : ℕ → List ℕ → ℕ → Nearest
-givenBack word frame limit = answerWith frame limit word (flips word frame)
+givenBack word frame limit = nearestWith frame limit word (flips word frame)
 
 -- "Whichever 50-bit word was sent, whichever of its frame's 162 data bits were flipped, two at most, and whatever became of the sync
 -- bits, limit 2 with a budget of 16,000 gives that word back, with the number of flipped bits as its disagreements."

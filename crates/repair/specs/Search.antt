@@ -1,4 +1,5 @@
--- What the search keeps and finds. No promise of `repair` has to be believed through these: they stand between its functions.
+-- What the search keeps and finds. No promise of `repair` has to be believed through these: they stand between its functions. One of them is
+-- a sentence of 01 by itself: `stops` of `SearchFound`.
 use mathlib.Core.Path.{_≡_}
 use Prim.Native.Nat.{ℕ, _+_, _^_, _≤_, _<_}
 use mathlib.Core.Bool.{cond}
@@ -7,6 +8,7 @@ use lib.Dec.{leb, ltb}
 use lib.ListN.{length, getD}
 use Rattle.refusal.specs.Refusals.{refusal, overBudget, noneWithinLimit, sharedFewest}
 use Rattle.distance.specs.Prefixes.{wordDisagreements, liveCount}
+use Rattle.repair.specs.Answer.{nearestFrom}
 use Rattle.repair.specs.declared.best.Best.{Best}
 use Rattle.repair.specs.declared.search.Found.{Found}
 use Rattle.repair.specs.declared.Nearest.{Nearest}
@@ -52,8 +54,7 @@ pub record SearchFound (received : List ℕ) (limit budget : ℕ) (found : Found
 
 -- The answer that it gives, with the number of wrong sync bits.
 unfoldable pub nearestIn : Found → ℕ → Nearest
-nearestIn found wrong =
-    record { word = found .best .word; disagreements = found .best .fewest; live = found .live; «sync_wrong» = wrong }
+nearestIn found wrong = nearestFrom (found .best .word) (found .best .fewest) (found .live) wrong
 
 unfoldable pub answerOf : Found → ℕ → ℕ → ℕ → RepairAnswer
 answerOf found wrong limit budget =

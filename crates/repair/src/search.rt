@@ -7,7 +7,7 @@ use super::best::Best;
 use super::cost;
 use super::prefix;
 
-// What a search found: the live count, or a number above the budget, and the nearest word.
+// What a search found: the live count, or one more than the budget, and the nearest word.
 pub(crate) struct Found {
     pub live: u32,
     pub best: Best,

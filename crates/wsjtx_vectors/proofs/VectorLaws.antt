@@ -12,7 +12,7 @@ use Rattle.basics.proofs.Choice.{cond-held, equal-or-not, between-range, betwee
 use Rattle.basics.specs.Test.{between}
 use Rattle.wsjtx_vectors.specs.Field.{fieldAt}
 use Rattle.wsjtx_vectors.specs.Number.{digitValue, numberIn}
-use Rattle.wsjtx_vectors.specs.Vector.{hasForm, powerIn, wordIn, numbers, vectorIn, symbolsIn}
+use Rattle.wsjtx_vectors.specs.Vector.{hasForm, powerIn, wordIn, powerAndWord, vectorIn, symbolsIn}
 use Rattle.wsjtx_vectors.specs.declared.number.Number.{Number}
 use Rattle.wsjtx_vectors.specs.declared.vector.Vector.{Vector}
 use Rattle.wsjtx_vectors.proofs.NumberLaws.{numeral-below}
@@ -76,16 +76,16 @@ module _ (line : List ℕ) where
 
   module _ (form : hasForm line ≡ true) where
     pub no-power : powerIn (fieldAt 2 line) ≡ Number.Malformed → vectorIn line ≡ Vector.Malformed
-    unfolding vectorIn numbers
+    unfolding vectorIn powerAndWord
     no-power h = rw (form, h)
 
     module _ {power : ℕ} (its-power : powerIn (fieldAt 2 line) ≡ Number.Value power) where
       pub no-word : wordIn (fieldAt 3 line) ≡ Number.Malformed → vectorIn line ≡ Vector.Malformed
-      unfolding vectorIn numbers
+      unfolding vectorIn powerAndWord
       no-word h = rw (form, its-power, h)
 
       pub both-numbers : {word : ℕ} → wordIn (fieldAt 3 line) ≡ Number.Value word → vectorIn line ≡ Vector.PowerAndWord power word
-      unfolding vectorIn numbers
+      unfolding vectorIn powerAndWord
       both-numbers h = rw (form, its-power, h)
 
   -- A vector has 162 symbols.

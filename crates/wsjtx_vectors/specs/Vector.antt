@@ -27,13 +27,13 @@ unfoldable pub wordIn : List ℕ → Number
 wordIn text = cond (eqb (length text) 13) (numberIn 16 text) Number.Malformed
 
 -- Both numbers, or no vector.
-unfoldable pub numbers : Number → Number → Vector
-numbers (Number.Value power) (Number.Value word) = Vector.PowerAndWord power word
-numbers (Number.Value power) Number.Malformed = Vector.Malformed
-numbers Number.Malformed word = Vector.Malformed
+unfoldable pub powerAndWord : Number → Number → Vector
+powerAndWord (Number.Value power) (Number.Value word) = Vector.PowerAndWord power word
+powerAndWord (Number.Value power) Number.Malformed = Vector.Malformed
+powerAndWord Number.Malformed word = Vector.Malformed
 
 unfoldable pub vectorIn : List ℕ → Vector
-vectorIn line = cond (hasForm line) (numbers (powerIn (fieldAt 2 line)) (wordIn (fieldAt 3 line))) Vector.Malformed
+vectorIn line = cond (hasForm line) (powerAndWord (powerIn (fieldAt 2 line)) (wordIn (fieldAt 3 line))) Vector.Malformed
 
 -- A digit for each symbol; any byte other than the digits 0 to 3 has a value above 3, which no symbol has.
 unfoldable pub symbolsIn : List ℕ → List ℕ

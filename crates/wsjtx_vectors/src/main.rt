@@ -20,40 +20,40 @@ use field::field;
 use libc::STDIN_FILENO;
 use output::print;
 use output::print_bar;
-use output::print_packed;
-use output::print_unpacked;
-use output::print_written;
+use output::print_message_answer;
+use output::print_word_answer;
+use output::print_write_answer;
 use vector::Vector;
 
 fn print_frame_of_message(callsign: &[u8], locator: &[u8], power: u32) {
     let mut symbols = [0u8; 162];
-    let written = frame::write_message(callsign, locator, power, &mut symbols);
-    print_written(written, &symbols);
+    let answer = frame::write_message(callsign, locator, power, &mut symbols);
+    print_write_answer(answer, &symbols);
 }
 
 fn print_frame_of_word(word: u64) {
     let mut symbols = [0u8; 162];
-    let written = frame::write_word(word, &mut symbols);
-    print_written(written, &symbols);
+    let answer = frame::write_word(word, &mut symbols);
+    print_write_answer(answer, &symbols);
 }
 
 fn print_message_of_word(word: u64) {
     let mut callsign = [0u8; 6];
     let mut locator = [0u8; 4];
-    let unpacked = message::unpack(word, &mut callsign, &mut locator);
-    print_unpacked(unpacked, &callsign, &locator);
+    let answer = message::unpack(word, &mut callsign, &mut locator);
+    print_message_answer(answer, &callsign, &locator);
 }
 
 fn print_message_of_symbols(symbols: &[u8]) {
     let mut callsign = [0u8; 6];
     let mut locator = [0u8; 4];
-    let unpacked = frame::read_message(symbols, &mut callsign, &mut locator);
-    print_unpacked(unpacked, &callsign, &locator);
+    let answer = frame::read_message(symbols, &mut callsign, &mut locator);
+    print_message_answer(answer, &callsign, &locator);
 }
 
 // What the vector's message gives: the word and the frame.
 fn print_answers_of_message(callsign: &[u8], locator: &[u8], power: u32) {
-    print_packed(message::pack(callsign, locator, power));
+    print_word_answer(message::pack(callsign, locator, power));
     print_bar();
     print_frame_of_message(callsign, locator, power);
 }
@@ -67,7 +67,7 @@ fn print_answers_of_word(word: u64) {
 
 // What the vector's symbols give: the word and the message.
 fn print_answers_of_symbols(symbols: &[u8]) {
-    print_packed(frame::read_word(symbols));
+    print_word_answer(frame::read_word(symbols));
     print_bar();
     print_message_of_symbols(symbols);
 }

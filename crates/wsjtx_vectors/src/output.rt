@@ -25,8 +25,8 @@ fn print_word(word: u64) {
     io::print_hex(STDOUT_FILENO, word, 13);
 }
 
-pub(crate) fn print_packed(packed: WordAnswer) {
-    match packed {
+pub(crate) fn print_word_answer(answer: WordAnswer) {
+    match answer {
         WordAnswer::Word(word) => print_word(word),
         WordAnswer::Refused(refusal) => print_refusal(refusal),
     }
@@ -40,8 +40,8 @@ fn print_symbols(symbols: &[u8]) {
     }
 }
 
-pub(crate) fn print_written(written: WriteAnswer, symbols: &[u8]) {
-    match written {
+pub(crate) fn print_write_answer(answer: WriteAnswer, symbols: &[u8]) {
+    match answer {
         WriteAnswer::Done => print_symbols(symbols),
         WriteAnswer::Refused(refusal) => print_refusal(refusal),
     }
@@ -55,8 +55,8 @@ fn print_message(callsign: &[u8], locator: &[u8], power: u32) {
     io::print_decimal(STDOUT_FILENO, power as u64);
 }
 
-pub(crate) fn print_unpacked(unpacked: MessageAnswer, callsign: &[u8], locator: &[u8]) {
-    match unpacked {
+pub(crate) fn print_message_answer(answer: MessageAnswer, callsign: &[u8], locator: &[u8]) {
+    match answer {
         MessageAnswer::Power(power) => print_message(callsign, locator, power),
         MessageAnswer::Refused(refusal) => print_refusal(refusal),
     }

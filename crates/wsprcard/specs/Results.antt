@@ -8,7 +8,6 @@ use Rattle.refusal.specs.declared.Refusal.{Refusal}
 use Rattle.message.specs.Answer.{WordNumbers, MessageNumbers}
 use Rattle.message.specs.declared.WordAnswer.{WordAnswer}
 use Rattle.message.specs.declared.MessageAnswer.{MessageAnswer}
-use Rattle.frame.specs.Answer.{writeNumbers}
 use Rattle.frame.specs.declared.WriteAnswer.{WriteAnswer}
 use Rattle.repair.specs.Answer.{RepairNumbers}
 use Rattle.repair.specs.declared.RepairAnswer.{RepairAnswer}
@@ -23,8 +22,8 @@ use Rattle.wsprcard.specs.declared.U4bReading.{U4bReading}
 
 -- ---- The answers' result numbers, as the layer's definition gives them, field by field
 
-unfoldable pub writtenResult : WriteAnswer → WsprWritten
-writtenResult answer = record { refusal = writeNumbers answer .number; place = writeNumbers answer .place }
+unfoldable pub writtenResult : Refusal → WsprWritten
+writtenResult numbers = record { refusal = numbers .number; place = numbers .place }
 
 unfoldable pub wordResult : WordNumbers → WsprWord
 wordResult numbers = record { refusal = numbers .number; place = numbers .place; word = numbers .word }

@@ -3,7 +3,7 @@
 ghost use mathlib.Core.Path.{_≡_};
 ghost use Rattle.message.specs.Answer.{packed, unpacked, callsignAfterUnpack, locatorAfterUnpack, wordNumbers, messageNumbers};
 ghost use Rattle.message.specs.RoundTrip.{UnpacksBack, PacksBack, UnpackRefusedExactly};
-ghost use Rattle.frame.specs.Answer.{wordWritten, messageWritten, frameAfterWord, frameAfterMessage, wordRead, messageRead, callsignAfterRead, locatorAfterRead};
+ghost use Rattle.frame.specs.Answer.{writeNumbers, wordWritten, messageWritten, frameAfterWord, frameAfterMessage, wordRead, messageRead, callsignAfterRead, locatorAfterRead};
 ghost use Rattle.frame.specs.RoundTrip.{WordReadsBack, WordWritesBack, WordRefusedExactly, NoWordRefused, MessageReadsBack, MessageWritesBack, MessageRefusedExactly};
 ghost use Rattle.repair.specs.Answer.{repaired, repairNumbers};
 ghost use Rattle.repair.specs.Demand.{AsChecked, AsDemanded, TwoFlipsRepaired};
@@ -43,6 +43,7 @@ pub struct WsprMessage {
 
 // Refusal number (0: success), place, and the nearest word with what belongs to it. To C the fields of
 // `nearest` are the struct's own, one after another: they start where its first would stand, at byte 8.
+// It must stay last, as a field after it would stand behind its padding.
 #[repr(C)]
 pub struct WsprRepaired {
     pub refusal: u32,
@@ -68,7 +69,7 @@ pub struct U4bReading {
 
 // The result of writing a frame.
 fn written_result(answer: WriteAnswer) -> WsprWritten
-    ensures { λ r. ⌜ r ≡ writtenResult answer ⌝ }
+    ensures { λ r. ⌜ r ≡ writtenResult (writeNumbers answer) ⌝ }
 {
     match answer {
         WriteAnswer::Done => WsprWritten {
@@ -199,7 +200,7 @@ pub extern "C" fn wspr_unpack(word: u64, callsign: &mut [u8], locator: &mut [u8]
 // Writes the frame of a word.
 #[no_mangle]
 pub extern "C" fn wspr_write_word(word: u64, frame: &mut [u8]) -> WsprWritten
-    ensures answer { λ r. ⌜ r ≡ writtenResult (wordWritten (now (frame .entry)) word) ⌝ }
+    ensures answer { λ r. ⌜ r ≡ writtenResult (writeNumbers (wordWritten (now (frame .entry)) word)) ⌝ }
     ensures frame_after { λ _. ⌜ now (frame .exit) ≡ frameAfterWord (now (frame .entry)) word ⌝ }
     ensures reads_back { λ r. ⌜ WordReadsBack (writeAnswerIn r) word (now (frame .exit)) ⌝ }
 {
@@ -214,7 +215,7 @@ pub extern "C" fn wspr_write_message(
     power: u32,
     frame: &mut [u8],
 ) -> WsprWritten
-    ensures answer { λ r. ⌜ r ≡ writtenResult (messageWritten (now (callsign .entry)) (now (locator .entry)) power (now (frame .entry))) ⌝ }
+    ensures answer { λ r. ⌜ r ≡ writtenResult (writeNumbers (messageWritten (now (callsign .entry)) (now (locator .entry)) power (now (frame .entry)))) ⌝ }
     ensures frame_after { λ _. ⌜ now (frame .exit) ≡ frameAfterMessage (now (callsign .entry)) (now (locator .entry)) power (now (frame .entry)) ⌝ }
     ensures reads_back { λ r. ⌜ MessageReadsBack (writeAnswerIn r) (now (callsign .entry)) (now (locator .entry)) power (now (frame .exit)) ⌝ }
 {

@@ -25,8 +25,8 @@ returns c =
     promised-refused (a .callsign .now) (a .locator .now) (a .word) _
     (unpacked-length (a .callsign .now) (a .locator .now) (a .word) (sym (c .before .right-lengths .ensures) ∙ not-true _ (c .if1 .taken)))
 
-read-word-requires : tie.Need-read-word-requires
-read-word-requires c κs = search needs
+power-of-requires : tie.Need-power-of-requires
+power-of-requires c κs = search needs
 
 enum-known-answer : tie.Need-enum-known-answer
 enum-known-answer c = search needs
@@ -39,7 +39,7 @@ returns-2 c =
     let r = c .before .before in
     let a = r .before .before .before .before .before .args in
     let refused = c .enum-told .given .1 in
-    let answer = sym (r .read-word .ensures) ∙ refused in
+    let answer = sym (r .power-of .ensures) ∙ refused in
     rw refused (promised-refused (a .callsign .now) (a .locator .now) (a .word) _ (unpacked-read (a .callsign .now) (a .locator .now) (a .word) (right (r .before)) ∙ answer))
 
 write-callsign-requires : tie.Need-write-callsign-requires
@@ -68,7 +68,7 @@ returns-3 c =
     let r = k .before .before in
     let e = r .before in
     let a = e .before .before .before .before .args in
-    let read = sym (r .read-word .ensures) ∙ k .answer .given .1 in
+    let read = sym (r .power-of .ensures) ∙ k .answer .given .1 in
     rw (v .write-callsign .ensures, w .write-locator .ensures) (promised-power (a .callsign .now) (a .locator .now) (a .word) _ (right e) read)
 
 pub unpack-spec : {M : Type 1} → statement M
@@ -77,7 +77,7 @@ unpack-spec =
     (tie.spec
     right-lengths-requires
     returns
-    read-word-requires
+    power-of-requires
     enum-known-answer
     enum-told
     returns-2

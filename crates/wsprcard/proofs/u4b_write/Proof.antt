@@ -2,7 +2,7 @@
 -- Assumes nothing.
 use mir.Facts.{toZ-ofZ}
 use Rattle.telemetry.proofs.AnswerLaws.{written-answered}
-use Rattle.wsprcard.proofs.ResultLaws.{given-found, told}
+use Rattle.wsprcard.proofs.ResultLaws.{message-in-result, told}
 use borrow.Author.Needs.{needs}
 use Rattle.wsprcard.proofs.u4b_write.Statement.{statement}
 use Rattle.wsprcard.proofs.u4b_write.Tie as tie
@@ -25,7 +25,7 @@ returns c =
     let s = w .before .before .before .before .before in
     let promised = rw (toZ-ofZ (s .fits .temperature)) at (w .write .ensures) in
     let answered = written-answered (s .args .callsign .now) (s .args .locator .now) _ in
-    let (result, same) = told (given-found _ answered) (c .message-result .ensures) (promised .0) in
+    let (result, same) = told (message-in-result _ answered) (c .message-result .ensures) (promised .0) in
     (result, rw same at (promised .1))
 
 pub u4b-write-spec : {M : Type 1} → statement M

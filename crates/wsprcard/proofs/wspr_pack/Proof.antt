@@ -1,7 +1,7 @@
 -- `wsprcard::wspr_pack` meets its contract: the layer's answer, in its struct.
 -- Assumes nothing.
 use Rattle.message.proofs.AnswerLaws.{packed-answered}
-use Rattle.wsprcard.proofs.ResultLaws.{packed-found, told}
+use Rattle.wsprcard.proofs.ResultLaws.{word-in-result, told}
 use borrow.Author.Needs.{needs}
 use Rattle.wsprcard.proofs.wspr_pack.Statement.{statement}
 use Rattle.wsprcard.proofs.wspr_pack.Tie as tie
@@ -17,7 +17,7 @@ returns c =
     let m = c .before in
     let a = m .before .before .before .args in
     let answered = packed-answered (a .callsign .now) (a .locator .now) (a .power) in
-    let (result, same) = told (packed-found _ answered) (c .word-result .ensures) (m .pack .ensures .0) in
+    let (result, same) = told (word-in-result _ answered) (c .word-result .ensures) (m .pack .ensures .0) in
     (result, rw same at (m .pack .ensures .1 .1))
 
 pub wspr-pack-spec : {M : Type 1} → statement M

@@ -1,7 +1,7 @@
 -- `wsprcard::wspr_read_message` meets its contract: the layer's answer, in its struct.
 -- Assumes nothing.
 use Rattle.frame.proofs.AnswerLaws.{message-read-answered}
-use Rattle.wsprcard.proofs.ResultLaws.{given-found, told}
+use Rattle.wsprcard.proofs.ResultLaws.{message-in-result, told}
 use borrow.Author.Needs.{needs}
 use Rattle.wsprcard.proofs.wspr_read_message.Statement.{statement}
 use Rattle.wsprcard.proofs.wspr_read_message.Tie as tie
@@ -23,7 +23,7 @@ returns c =
     let m = c .before .before .before .before .before in
     let a = m .before .before .before .before .before .before .args in
     let answered = message-read-answered (a .frame .now) (a .callsign .now) (a .locator .now) in
-    let (result, same) = told (given-found _ answered) (c .message-result .ensures) (m .read-message .ensures .0) in
+    let (result, same) = told (message-in-result _ answered) (c .message-result .ensures) (m .read-message .ensures .0) in
     (result, rw same at (m .read-message .ensures .1 .1))
 
 pub wspr-read-message-spec : {M : Type 1} → statement M

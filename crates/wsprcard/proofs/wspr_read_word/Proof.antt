@@ -1,7 +1,7 @@
 -- `wsprcard::wspr_read_word` meets its contract: the layer's answer, in its struct.
 -- Assumes nothing.
 use Rattle.frame.proofs.AnswerLaws.{read-answered}
-use Rattle.wsprcard.proofs.ResultLaws.{packed-found, told}
+use Rattle.wsprcard.proofs.ResultLaws.{word-in-result, told}
 use borrow.Author.Needs.{needs}
 use Rattle.wsprcard.proofs.wspr_read_word.Statement.{statement}
 use Rattle.wsprcard.proofs.wspr_read_word.Tie as tie
@@ -17,7 +17,7 @@ returns c =
     let m = c .before in
     let frame = m .before .before .args .frame .now in
     let (is, (numbers, (writes, (exactly, none)))) = m .read-word .ensures in
-    let (result, same) = told (packed-found _ (read-answered frame)) (c .word-result .ensures) is in
+    let (result, same) = told (word-in-result _ (read-answered frame)) (c .word-result .ensures) is in
     (result, (rw same at writes, (rw same at exactly, rw same at none)))
 
 pub wspr-read-word-spec : {M : Type 1} → statement M

@@ -1,7 +1,7 @@
 -- `wsprcard::wspr_repair` meets its contract: the layer's answer, in its struct.
 -- Assumes nothing.
 use Rattle.repair.proofs.CheckLaws.{refusal-number}
-use Rattle.wsprcard.proofs.ResultLaws.{repaired-found, told}
+use Rattle.wsprcard.proofs.ResultLaws.{repair-in-result, told}
 use borrow.Author.Needs.{needs}
 use Rattle.wsprcard.proofs.wspr_repair.Statement.{statement}
 use Rattle.wsprcard.proofs.wspr_repair.Tie as tie
@@ -17,7 +17,7 @@ returns c =
     let m = c .before in
     let a = m .before .before .args in
     let numbered = refusal-number (a .frame .now) (a .limit) (a .budget) in
-    let (result, same) = told (repaired-found _ numbered) (c .repaired-result .ensures) (m .repair .ensures .0) in
+    let (result, same) = told (repair-in-result _ numbered) (c .repaired-result .ensures) (m .repair .ensures .0) in
     (result, rw same at (m .repair .ensures .1 .1))
 
 pub wspr-repair-spec : {M : Type 1} → statement M

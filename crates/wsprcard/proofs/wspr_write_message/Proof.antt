@@ -1,7 +1,7 @@
 -- `wsprcard::wspr_write_message` meets its contract: the layer's answer, in its struct.
 -- Assumes nothing.
 use Rattle.frame.proofs.AnswerLaws.{message-answered}
-use Rattle.wsprcard.proofs.ResultLaws.{written-found, told}
+use Rattle.wsprcard.proofs.ResultLaws.{write-in-result, told}
 use borrow.Author.Needs.{needs}
 use Rattle.wsprcard.proofs.wspr_write_message.Statement.{statement}
 use Rattle.wsprcard.proofs.wspr_write_message.Tie as tie
@@ -20,7 +20,7 @@ returns c =
     let w = c .before .before .before in
     let a = w .before .before .before .before .before .args in
     let answered = message-answered (a .callsign .now) (a .locator .now) (a .power) (a .frame .now) in
-    let (result, same) = told (written-found _ answered) (c .written-result .ensures) (w .write-message .ensures .0) in
+    let (result, same) = told (write-in-result _ answered) (c .written-result .ensures) (w .write-message .ensures .0) in
     (result, rw same at (w .write-message .ensures .1 .1))
 
 pub wspr-write-message-spec : {M : Type 1} → statement M

@@ -18,10 +18,10 @@ use Rattle.frame.proofs.symbols.write_symbols.Statement.{statement}
 use Rattle.frame.proofs.symbols.write_symbols.Tie as tie
 
 abbrev Inv-loop : tie.InvT-loop
-Inv-loop word frame₀ coded order sync place₀ frame place = Filling (frameOf word) frame place
+Inv-loop word frame₀ coded indexes sync place₀ frame place = Filling (frameOf word) frame place
 
 abbrev μ-loop : tie.MeasureT-loop
-μ-loop word frame₀ coded order sync place₀ frame place = 162 - place
+μ-loop word frame₀ coded indexes sync place₀ frame place = 162 - place
 
 -- What is read of the indexes is the index of the place's coded bit; what is read there is the bit; the sum with the sync bit is the symbol.
 index : (c : tie.In-loop Inv-loop μ-loop) → getD (c .before .before .before .indexes .result) (c .before .loop .place) 0 ≡ indexAt (c .before .loop .place)

@@ -1,4 +1,4 @@
--- `message::word::read_word` meets its contract: at each return the tests that led there say which case of the definition holds.
+-- `message::word::power_of` meets its contract: at each return the tests that led there say which case of the definition holds.
 -- Assumes nothing.
 use mathlib.Core.Path.{sym, _∙_}
 use mathlib.Core.Logic.{⊎-elim}
@@ -7,8 +7,8 @@ use borrow.Author.Tests.{not-true, not-false}
 use Rattle.message.specs.Word.{powerPart}
 use Rattle.message.proofs.AnswerLaws.{wordMessage-callsign, wordMessage-locator, wordMessage-low, wordMessage-illegal, wordMessage-power}
 use borrow.Author.Needs.{needs}
-use Rattle.message.proofs.word.read_word.Statement.{statement}
-use Rattle.message.proofs.word.read_word.Tie as tie
+use Rattle.message.proofs.word.power_of.Statement.{statement}
+use Rattle.message.proofs.word.power_of.Tie as tie
 
 callsign-part-requires : tie.Need-callsign-part-requires
 callsign-part-requires c κs = search needs
@@ -44,8 +44,8 @@ returns-4 c =
     let word = c .before .before .before .before .before .before .before .args .word in
     sym (wordMessage-power word (omega arith) (omega arith) (omega arith) (sym (c .before .is-legal .ensures) ∙ not-false _ (c .if4 .left)))
 
-pub read-word-spec : {M : Type 1} → statement M
-read-word-spec =
+pub power-of-spec : {M : Type 1} → statement M
+power-of-spec =
     tie.close
     (tie.spec
     callsign-part-requires
