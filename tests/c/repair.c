@@ -1,10 +1,14 @@
 /* Repairs a few frames through the C interface, clean and damaged, and prints what a host sees. */
 #include <inttypes.h>
+#include <stddef.h>
 #include <stdio.h>
 
 #include "wsprcard.h"
 
 #define SYMBOLS 162
+
+/* Where the library writes the last number: tests/c/layout.c sees that it writes no further. */
+_Static_assert(offsetof(wspr_repaired, sync_wrong) == 24 && sizeof(wspr_repaired) == 32, "layout");
 
 /* What a repair says of the frame, and what message its word is. */
 static void repair_and_print(const char *what, const uint8_t *frame, size_t len, uint32_t limit, uint32_t budget)

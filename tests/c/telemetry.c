@@ -1,9 +1,13 @@
 /* Writes a few telemetry reports and reads a few messages through the C interface, and prints what a host sees. */
 #include <inttypes.h>
+#include <stddef.h>
 #include <stdio.h>
 #include <string.h>
 
 #include "wsprcard.h"
+
+/* Where the library writes the last number: tests/c/layout.c sees that it writes no further. */
+_Static_assert(offsetof(u4b_reading, gps) == 28 && sizeof(u4b_reading) == 32, "layout");
 
 /* Channel, sub-square, metres, tenths of a degree, millivolts, tenths of a knot, GPS. The last four are refused. */
 static const struct {
