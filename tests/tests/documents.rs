@@ -1,16 +1,20 @@
-// What README.md, docs/GUARANTEES.md and docs/DECISIONS.md name is there: each file, and each name
-// between backquotes, as that of a definition, a promise, a function or an edit.
+// What README.md, docs/GUARANTEES.md and docs/DECISIONS.md name is there: each file; each name
+// between backquotes, as that of a definition, a law, a function, a clause or an edit; each name that
+// they say stands in a file, in that file; and each clause at its function.
 use std::collections::HashSet;
 use std::fs;
 use std::path::{Path, PathBuf};
 
 const DOCUMENTS: [&str; 3] = ["README.md", "docs/GUARANTEES.md", "docs/DECISIONS.md"];
 
-/// Where the names stand: the crates, the host program, the interface, tests and benchmarks.
+/// Where the names stand.
 const SOURCES: [&str; 5] = ["crates", "host", "include", "tests", "bench"];
 
-/// Of other programs and libraries.
-const FOREIGN: [&str; 4] = ["rt", "memcpy", "memset", "clause"];
+/// Of the languages, the toolchain and the C library, and of the documents' own example of a clause.
+const FOREIGN: [&str; 20] = [
+    "requires", "ensures", "match", "while", "len", "use", "pub", "memcpy", "memset", "rt", "lib",
+    "mathlib", "check", "bytes", "io", "libc", "f", "clause", "specs", "proofs",
+];
 
 fn root() -> PathBuf {
     Path::new(env!("CARGO_MANIFEST_DIR")).join("..")
@@ -20,15 +24,21 @@ fn read(path: &str) -> String {
     fs::read_to_string(root().join(path)).unwrap_or_else(|error| panic!("{path}: {error}"))
 }
 
-fn files(folder: &Path, found: &mut Vec<PathBuf>) {
-    for entry in fs::read_dir(folder).expect("the folder is there") {
-        let path = entry.expect("an entry").path();
-        if path.is_dir() && !path.ends_with("target") {
-            files(&path, found);
-        } else if path.is_file() {
+/// The files below a folder, by their paths from the root.
+fn files(folder: &str) -> Vec<String> {
+    let mut found = Vec::new();
+    for entry in fs::read_dir(root().join(folder)).expect("the folder is there") {
+        let entry = entry.expect("an entry");
+        let path = format!("{folder}/{}", entry.file_name().to_string_lossy());
+        if entry.path().is_dir() {
+            if !path.ends_with("/target") {
+                found.extend(files(&path));
+            }
+        } else {
             found.push(path);
         }
     }
+    found
 }
 
 /// Letters, digits and what else a name may hold.
@@ -36,48 +46,104 @@ fn in_name(c: char) -> bool {
     c.is_alphanumeric() || matches!(c, '_' | '-' | '\'')
 }
 
-fn words(text: &str) -> impl Iterator<Item = String> + '_ {
-    text.split(|c: char| !in_name(c)).filter(|word| !word.is_empty()).map(str::to_string)
+/// The name that a line of antt gives a type, if it does: `pub name : ..`, `pub record Name (..) ..`.
+fn antt_name(line: &str) -> Option<&str> {
+    let keywords = ["pub", "unfoldable", "abbrev", "record", "data"];
+    let mut words = line.split_whitespace().skip_while(|word| keywords.contains(word));
+    let name = words.next().filter(|word| word.chars().all(in_name))?;
+    (line.contains(" : ") && words.next().is_some()).then_some(name)
 }
 
-/// All words of the sources but their comments, and the names of files and folders.
+/// The names that a line of Rattle, Rust or C declares: of functions, types, constants and clauses.
+fn code_names(line: &str) -> Vec<&str> {
+    let declares = ["fn", "struct", "enum", "const", "mod", "ensures"];
+    let words: Vec<&str> =
+        line.split(|c: char| !in_name(c)).filter(|word| !word.is_empty()).collect();
+    let after = words.windows(2).filter(|pair| declares.contains(&pair[0])).map(|pair| pair[1]);
+    after.collect()
+}
+
+fn is_comment(line: &str) -> bool {
+    ["--", "//", "#", "*", "/*"].iter().any(|start| line.trim_start().starts_with(start))
+}
+
+/// What a file declares; of the header, whatever stands outside its comments.
+fn declared(path: &str) -> HashSet<String> {
+    let Ok(text) = fs::read_to_string(root().join(path)) else { return HashSet::new() };
+    let lines = text.lines().filter(|line| !is_comment(line));
+    let names: Vec<&str> = match path.rsplit('.').next() {
+        Some("antt") => lines.filter_map(antt_name).collect(),
+        Some("rt" | "rs") => lines.flat_map(code_names).collect(),
+        Some("h") => lines.flat_map(|line| line.split(|c: char| !in_name(c))).collect(),
+        _ => Vec::new(),
+    };
+    names.into_iter().map(str::to_string).collect()
+}
+
+/// Whatever is declared, and the names of files without their endings and of folders.
 fn names() -> HashSet<String> {
-    let mut found = Vec::new();
-    SOURCES.iter().for_each(|folder| files(&root().join(folder), &mut found));
     let mut names: HashSet<String> = FOREIGN.iter().map(|name| name.to_string()).collect();
-    for path in found {
-        let shown = path.strip_prefix(root()).expect("below the root");
-        names.extend(
-            shown.iter().flat_map(|part| words(&part.to_string_lossy()).collect::<Vec<_>>()),
-        );
-        let text = fs::read_to_string(&path).unwrap_or_default();
-        let code = text.lines().filter(|line| {
-            !line.trim_start().starts_with("--") && !line.trim_start().starts_with("//")
-        });
-        names.extend(code.flat_map(words));
+    for path in SOURCES.iter().flat_map(|folder| files(folder)) {
+        names
+            .extend(path.split('/').map(|part| part.split('.').next().unwrap_or(part).to_string()));
+        names.extend(declared(&path));
     }
     names
 }
 
-/// What stands between backquotes, a line at a time.
-fn quoted(text: &str) -> Vec<String> {
-    let lines = text.lines().filter(|line| !line.starts_with("```"));
-    lines.flat_map(|line| line.split('`').skip(1).step_by(2)).map(str::to_string).collect()
+/// What stands between backquotes, outside of the blocks that three of them fence.
+fn quoted(text: &str) -> Vec<&str> {
+    let outside = text.split("\n```").step_by(2);
+    outside.flat_map(|part| part.split('`').skip(1).step_by(2)).collect()
 }
 
-/// A path by its modules and its clause, as `frame::read_word: answer`.
-fn parts(quoted: &str) -> Option<Vec<&str>> {
+/// The modules, the name and the clause of `frame::read_word: answer`; none for what is no name.
+fn parts(quoted: &str) -> Vec<&str> {
     let (path, clause) = quoted.split_once(": ").unwrap_or((quoted, ""));
     let parts: Vec<&str> =
         path.split("::").chain([clause]).filter(|part| !part.is_empty()).collect();
-    parts.iter().all(|part| part.chars().all(in_name)).then_some(parts)
+    if parts.iter().all(|part| part.chars().all(in_name)) {
+        parts
+    } else {
+        Vec::new()
+    }
 }
 
 fn missing(document: &str, names: &HashSet<String>) -> Vec<String> {
-    let named = |quoted: &String| {
-        parts(quoted).is_none_or(|parts| parts.iter().all(|part| names.contains(*part)))
-    };
-    quoted(document).into_iter().filter(|quoted| !named(quoted)).collect()
+    let named = |quoted: &&str| parts(quoted).iter().all(|part| names.contains(*part));
+    quoted(document).into_iter().filter(|quoted| !named(quoted)).map(str::to_string).collect()
+}
+
+/// The names of `a`, `b` in crates/.../File.antt and of `a`, `b` (crates/.../File.antt), with the file.
+fn cited(document: &str) -> Vec<(String, String)> {
+    let mut found = Vec::new();
+    for (at, _) in document.match_indices("crates/") {
+        let path: String =
+            document[at..].chars().take_while(|&c| in_name(c) || matches!(c, '/' | '.')).collect();
+        let path = path.trim_end_matches('.');
+        let before = document[..at].trim_end_matches('(').trim_end().trim_end_matches(" in");
+        let mut rest = before;
+        while let Some(shorter) = rest.strip_suffix('`') {
+            let Some((start, name)) = shorter.rsplit_once('`') else { break };
+            if path.ends_with(".antt") && parts(name).len() == 1 {
+                found.push((name.to_string(), path.to_string()));
+            }
+            rest = start.trim_end().trim_end_matches(',').trim_end_matches(" and");
+        }
+    }
+    found
+}
+
+/// Whether a function, of the crate that is named or of any, has the clause.
+fn has_clause(path: &[&str], clause: &str) -> bool {
+    let folder =
+        if path.len() > 1 { format!("crates/{}/src", path[0]) } else { "crates".to_string() };
+    let opens = format!("fn {}(", path[path.len() - 1]);
+    let sources =
+        files(&folder).into_iter().filter(|file| file.ends_with(".rt")).map(|file| read(&file));
+    let mut heads = sources
+        .filter_map(|text| Some(text.split_once(&opens)?.1.split("\n{").next()?.to_string()));
+    heads.any(|head| head.contains(&format!("ensures {clause} ")))
 }
 
 #[test]
@@ -90,30 +156,58 @@ fn every_name_in_the_documents_is_that_of_something() {
 
 #[test]
 fn a_name_that_is_nowhere_is_missed() {
-    let invented = ["frame", "read"].join("_unheard_of_");
-    let document = format!(
-        "`{invented}` and `frame::{invented}`, `frame::read_word: {invented}`, `read_word`"
+    let names = names();
+    let document = "`frame::read_word: answer`, `indexAt-placeOf`, `first_place`, `frame::allWords`, `frame::read_word: seventh`";
+    assert_eq!(
+        missing(document, &names),
+        ["first_place", "frame::allWords", "frame::read_word: seventh"]
     );
-    assert_eq!(missing(&document, &names()).len(), 3);
+}
+
+#[test]
+fn every_name_stands_in_the_file_that_is_named_for_it() {
+    for document in DOCUMENTS {
+        for (name, path) in cited(&read(document)) {
+            assert!(declared(&path).contains(&name), "{document}: {name} isn't in {path}");
+        }
+    }
+    let rows = cited(&read("docs/GUARANTEES.md"));
+    assert!(rows.len() > 100, "{} names with a file only", rows.len());
+}
+
+#[test]
+fn every_clause_in_the_documents_is_one_of_its_function() {
+    let mut seen = 0;
+    for document in DOCUMENTS {
+        let text = read(document);
+        for (path, clause) in quoted(&text).into_iter().filter_map(|quoted| quoted.split_once(": "))
+        {
+            let path: Vec<&str> = path.split("::").collect();
+            if path != ["f"] && !parts(path[0]).is_empty() && clause.chars().all(in_name) {
+                assert!(has_clause(&path, clause), "{document}: {path:?}: {clause}");
+                seen += 1;
+            }
+        }
+    }
+    assert!(seen > 40, "{seen} clauses only");
+    assert!(!has_clause(&["frame", "read_word"], "reads_back"));
 }
 
 #[test]
 fn every_file_in_the_documents_is_there() {
+    let all: Vec<String> = SOURCES.iter().flat_map(|folder| files(folder)).collect();
+    let ends =
+        |c: char| c.is_whitespace() || matches!(c, '`' | '(' | ')' | ',' | ';' | '|' | ':' | '*');
     for document in DOCUMENTS {
         let text = read(document);
-        let starts = SOURCES.map(|folder| format!("{folder}/"));
-        let ends = |c: char| {
-            c.is_whitespace() || matches!(c, '`' | ')' | ',' | ';' | '|' | ':' | '(' | '*')
-        };
-        let paths =
-            text.split(ends).filter(|word| starts.iter().any(|start| word.starts_with(start)));
-        let paths: Vec<&str> = paths
-            .map(|path| path.trim_end_matches(['.', '/']))
-            .filter(|path| !path.contains("NAME"))
-            .collect();
-        assert!(!paths.is_empty(), "{document} names no file");
-        for path in paths {
-            assert!(root().join(path).exists(), "{document}: {path}");
+        let words = text.split(ends).map(|word| word.trim_end_matches(['.', '/']));
+        for word in words.filter(|word| !word.contains("NAME")) {
+            if SOURCES.iter().any(|folder| word.starts_with(&format!("{folder}/"))) {
+                assert!(root().join(word).exists(), "{document}: {word}");
+            } else if word.ends_with(".antt") {
+                let there = all.iter().any(|path| path.ends_with(&format!("/{word}")));
+                assert!(there, "{document}: {word}");
+            }
         }
     }
 }

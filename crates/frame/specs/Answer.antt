@@ -1,4 +1,4 @@
--- What writing and strictly reading a frame answer, for every input, and what the lent buffers then hold.
+-- What writing and strictly reading a frame answer, for every input, what the lent buffers then hold, and the result numbers of an answer.
 use Prim.Native.Nat.{ℕ, _^_}
 use mathlib.Core.Bool.{Bool, cond, not}
 use mathlib.Core.List.{List}
