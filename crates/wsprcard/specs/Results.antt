@@ -47,18 +47,19 @@ repairedResult numbers =
 unfoldable pub readingResult : TelemetryNumbers → U4bReading
 readingResult numbers =
     let r = numbers .reading in
+    let s = r .sensors in
     record {
       refusal = numbers .number;
       place = numbers .place;
-      first = r .first;
-      third = r .third;
-      grid5 = r .grid5;
-      grid6 = r .grid6;
-      altitude = r .altitude;
-      temperature = r .temperature;
-      voltage = r .voltage;
-      speed = r .speed;
-      gps = r .gps;
+      first = r .channel .first;
+      third = r .channel .third;
+      grid5 = r .square .grid5;
+      grid6 = r .square .grid6;
+      altitude = s .altitude;
+      temperature = s .temperature;
+      voltage = s .voltage;
+      speed = s .speed;
+      gps = s .gps;
     }
 
 -- ---- The layers' answers in the structs, of which the exports promise what the layers promise
@@ -86,15 +87,9 @@ abbrev pub telemetryAnswerIn : U4bReading → TelemetryAnswer
 telemetryAnswerIn r =
     answerIn (r .refusal) (r .place)
     (TelemetryAnswer.Telemetry (record {
-      first = r .first;
-      third = r .third;
-      grid5 = r .grid5;
-      grid6 = r .grid6;
-      altitude = r .altitude;
-      temperature = r .temperature;
-      voltage = r .voltage;
-      speed = r .speed;
-      gps = r .gps;
+      channel = record { first = r .first; third = r .third };
+      square = record { grid5 = r .grid5; grid6 = r .grid6 };
+      sensors = record { altitude = r .altitude; temperature = r .temperature; voltage = r .voltage; speed = r .speed; gps = r .gps };
     }))
     TelemetryAnswer.Refused
 
@@ -103,13 +98,7 @@ telemetryAnswerIn r =
 -- What is measured, from the arguments in their order.
 abbrev pub measuredFrom : ℕ → ℕ → ℕ → ℕ → ℕ → ℤ → ℕ → ℕ → ℕ → Measured
 measuredFrom first third grid5 grid6 altitude temperature voltage speed gps = record {
-  first = first;
-  third = third;
-  grid5 = grid5;
-  grid6 = grid6;
-  altitude = altitude;
-  temperature = temperature;
-  voltage = voltage;
-  speed = speed;
-  gps = gps;
+  channel = record { first = first; third = third };
+  square = record { grid5 = grid5; grid6 = grid6 };
+  sensors = record { altitude = altitude; temperature = temperature; voltage = voltage; speed = speed; gps = gps };
 }

@@ -13,9 +13,32 @@ ghost use Rattle.wsprcard.specs.Results.{writtenResult, wordResult, mess
 use frame::WriteAnswer;
 use message::MessageAnswer;
 use message::WordAnswer;
+use refusal::Refusal;
 use repair::RepairAnswer;
 use telemetry::Measured;
+use telemetry::Reading;
+use telemetry::Sensors;
 use telemetry::TelemetryAnswer;
+use u4b::channel::Channel;
+use u4b::channel::SubSquare;
+
+// What stands in a result that has none.
+const NO_REFUSAL: Refusal = Refusal {
+    number: 0,
+    place: 0,
+};
+
+const NO_READING: Reading = Reading {
+    channel: Channel { first: 0, third: 0 },
+    square: SubSquare { grid5: 0, grid6: 0 },
+    sensors: Sensors {
+        altitude: 0,
+        temperature: 0,
+        voltage: 0,
+        speed: 0,
+        gps: 0,
+    },
+};
 
 // Refusal number (0: success) and place.
 #[repr(C)]
@@ -144,37 +167,35 @@ fn repaired_result(answer: RepairAnswer) -> WsprRepaired
     }
 }
 
+// The struct of a refusal and a reading: zeros where there is none.
+fn reading_struct(refusal: Refusal, reading: Reading) -> U4bReading
+    ensures { λ r. ⌜ r ≡ readingResult (record { number = refusal .number; place = refusal .place; reading = reading }) ⌝ }
+{
+    let channel = reading.channel;
+    let square = reading.square;
+    let sensors = reading.sensors;
+    U4bReading {
+        refusal: refusal.number,
+        place: refusal.place,
+        first: channel.first,
+        third: channel.third,
+        grid5: square.grid5,
+        grid6: square.grid6,
+        altitude: sensors.altitude,
+        temperature: sensors.temperature,
+        voltage: sensors.voltage,
+        speed: sensors.speed,
+        gps: sensors.gps,
+    }
+}
+
 // The result of reading telemetry.
 fn reading_result(answer: TelemetryAnswer) -> U4bReading
     ensures { λ r. ⌜ r ≡ readingResult (telemetryNumbers answer) ⌝ }
 {
     match answer {
-        TelemetryAnswer::Telemetry(reading) => U4bReading {
-            refusal: 0,
-            place: 0,
-            first: reading.first,
-            third: reading.third,
-            grid5: reading.grid5,
-            grid6: reading.grid6,
-            altitude: reading.altitude,
-            temperature: reading.temperature,
-            voltage: reading.voltage,
-            speed: reading.speed,
-            gps: reading.gps,
-        },
-        TelemetryAnswer::Refused(refusal) => U4bReading {
-            refusal: refusal.number,
-            place: refusal.place,
-            first: 0,
-            third: 0,
-            grid5: 0,
-            grid6: 0,
-            altitude: 0,
-            temperature: 0,
-            voltage: 0,
-            speed: 0,
-            gps: 0,
-        },
+        TelemetryAnswer::Telemetry(reading) => reading_struct(NO_REFUSAL, reading),
+        TelemetryAnswer::Refused(refusal) => reading_struct(refusal, NO_READING),
     }
 }
 
@@ -283,15 +304,15 @@ pub extern "C" fn u4b_write(
     ensures reads_back { λ r. ⌜ TelemetryReadsBack (messageAnswerIn r) (measuredFrom first third grid5 grid6 altitude temperature voltage speed gps) (now (callsign .exit)) (now (locator .exit)) ⌝ }
 {
     let measured = Measured {
-        first,
-        third,
-        grid5,
-        grid6,
-        altitude,
-        temperature,
-        voltage,
-        speed,
-        gps,
+        channel: Channel { first, third },
+        square: SubSquare { grid5, grid6 },
+        sensors: Sensors {
+            altitude,
+            temperature,
+            voltage,
+            speed,
+            gps,
+        },
     };
     message_result(telemetry::write(measured, callsign, locator))
 }

@@ -1,8 +1,6 @@
--- `wsprcard::reading_result` meets its contract, case by case. A signed field is read back from its bits as it was.
+-- `wsprcard::reading_result` meets its contract, case by case.
 -- Assumes nothing.
-use mathlib.Core.Path.{sym, ap}
-use mir.Facts.{toZ-ofZ}
-use mir.Syntax.{w32}
+use mathlib.Core.Path.{sym, ap, _∙_}
 use Rattle.telemetry.specs.Answer.{noReading, telemetryNumbers}
 use Rattle.telemetry.specs.declared.TelemetryAnswer.{TelemetryAnswer}
 use Rattle.wsprcard.specs.Results.{readingResult}
@@ -13,19 +11,34 @@ use Rattle.wsprcard.proofs.reading_result.Tie as tie
 enum-known-answer : tie.Need-enum-known-answer
 enum-known-answer c = search needs
 
+reading-struct-requires : tie.Need-reading-struct-requires
+reading-struct-requires c κs = search needs
+
 enum-known-answer-2 : tie.Need-enum-known-answer-2
 enum-known-answer-2 c = search needs
 
+reading-struct-requires-2 : tie.Need-reading-struct-requires-2
+reading-struct-requires-2 c κs = search needs
+
 returns : tie.Need-returns
-unfolding readingResult telemetryNumbers
+unfolding telemetryNumbers
 returns c =
-    let n = c .before .before .answer .given in
-    rw (toZ-ofZ {w = w32} {z = n .0 .0 .temperature} (record { sfits = c .struct-told .given .1 .1 .1 .1 .1 .0 .1 }))
-    (sym (ap (λ (a : TelemetryAnswer). readingResult (telemetryNumbers a)) (n .1)))
+    c .reading-struct .ensures
+    ∙ sym (ap (λ (a : TelemetryAnswer). readingResult (telemetryNumbers a)) (c .before .before .answer .given .1))
 
 returns-2 : tie.Need-returns-2
-unfolding readingResult telemetryNumbers noReading
-returns-2 c = sym (ap (λ (a : TelemetryAnswer). readingResult (telemetryNumbers a)) (c .before .answer2 .given .1))
+unfolding telemetryNumbers noReading
+returns-2 c =
+    c .reading-struct2 .ensures
+    ∙ sym (ap (λ (a : TelemetryAnswer). readingResult (telemetryNumbers a)) (c .before .before .answer2 .given .1))
 
 pub reading-result-spec : {M : Type 1} → statement M
-reading-result-spec = tie.close (tie.spec enum-known-answer enum-known-answer-2 returns returns-2)
+reading-result-spec =
+    tie.close
+    (tie.spec
+    enum-known-answer
+    reading-struct-requires
+    enum-known-answer-2
+    reading-struct-requires-2
+    returns
+    returns-2)
