@@ -6,21 +6,20 @@ use mathlib.Core.Bool.{true, false, not}
 use mathlib.Core.List.{List}
 use lib.Dec.{eqb, leb, ltb}
 use lib.ListN.{length}
-use borrow.Author.Tests.{le-leb, lt-leb, leb-false, lt-ltb, le-ltb, ltb-false, eq-eqb, ne-eqb, eqb-false}
+use borrow.Author.Tests.{not-false, le-leb, lt-leb, leb-false, lt-ltb, le-ltb, ltb-false, eq-eqb, ne-eqb, eqb-true}
 use Rattle.basics.proofs.Choice.{cond-passed, cond-both}
 use Rattle.refusal.specs.declared.Refusal.{Refusal}
 use Rattle.refusal.specs.Refusals.{refusal, wrongLength, extendedTelemetry, badPositionNumber, badSensorNumber, outOfRange}
-use Rattle.message.specs.Answer.{rightLengths, messageNumbers}
+use Rattle.message.specs.Answer.{rightLengths, unpacked, contentAfter, callsignAfterUnpack, locatorAfterUnpack, messageNumbers}
 use Rattle.message.specs.declared.MessageAnswer.{MessageAnswer}
-use Rattle.message.proofs.AnswerLaws.{refused-no-power}
-use Rattle.u4b.specs.Characters.{powerWith}
-use Rattle.u4b.specs.Answer.{payloadRead}
+use Rattle.message.proofs.AnswerLaws.{refused-no-power, unpacked-read}
+use Rattle.u4b.specs.Answer.{payloadMessage, payloadRead}
 use Rattle.u4b.specs.declared.Payload.{Payload}
 use Rattle.u4b.specs.declared.PayloadAnswer.{PayloadAnswer}
-use Rattle.u4b.proofs.AnswerLaws.{refused-nonzero}
+use Rattle.u4b.proofs.AnswerLaws.{Answered, message-answered, refused-nonzero}
 use Rattle.telemetry.specs.Ranges.{firstOutOfRange}
-use Rattle.telemetry.specs.Payload.{sensorNumber, readingOf}
-use Rattle.telemetry.specs.Answer.{measuredMessage, telemetryWritten, payloadTelemetry, telemetryIfPayload, telemetryRead, telemetryNumbers}
+use Rattle.telemetry.specs.Payload.{basicBit, payloadFrom, readingOf}
+use Rattle.telemetry.specs.Answer.{basicFirst, measuredMessage, telemetryWritten, numbersTelemetry, basicTelemetry, telemetryIfPayload, telemetryRead, telemetryIfMessage, wordTelemetry, telemetryNumbers}
 use Rattle.telemetry.specs.declared.Measured.{Measured}
 use Rattle.telemetry.specs.declared.Reading.{Reading}
 use Rattle.telemetry.specs.declared.TelemetryAnswer.{TelemetryAnswer}
@@ -28,20 +27,21 @@ use Rattle.telemetry.specs.declared.TelemetryAnswer.{TelemetryAnswer}
 -- ---- The cases of writing
 
 module _ (m : Measured) where
-  pub measured-range : (bad : ℕ) → firstOutOfRange m ≡ bad → bad < 9 → measuredMessage m ≡ MessageAnswer.Refused (refusal outOfRange bad)
+  pub measured-range : (bad : ℕ) → firstOutOfRange basicFirst m ≡ bad → bad < 9 → measuredMessage m ≡ MessageAnswer.Refused (refusal outOfRange bad)
   unfolding measuredMessage
   measured-range bad e h = rw (e, lt-ltb bad 9 h)
 
-  pub measured-power : 9 ≤ firstOutOfRange m → measuredMessage m ≡ MessageAnswer.Power (powerWith (sensorNumber m))
+  pub measured-payload : 9 ≤ firstOutOfRange basicFirst m → measuredMessage m ≡ payloadMessage basicFirst (payloadFrom basicBit m)
   unfolding measuredMessage
-  measured-power h = rw (le-ltb _ 9 h)
+  measured-payload h = rw (le-ltb _ 9 h)
 
-  -- What is written is in range, and its power is that of its number.
-  pub range-of-written : (power : ℕ) → measuredMessage m ≡ MessageAnswer.Power power → (9 ≤ firstOutOfRange m) × (power ≡ powerWith (sensorNumber m))
+  -- What is written is in range, and its message is that of its numbers.
+  pub range-of-written : (power : ℕ) → measuredMessage m ≡ MessageAnswer.Power power
+      → (9 ≤ firstOutOfRange basicFirst m) × (payloadMessage basicFirst (payloadFrom basicBit m) ≡ MessageAnswer.Power power)
   unfolding measuredMessage
   range-of-written power e =
-      let tests = cond-passed (ltb (firstOutOfRange m) 9) e (refused-no-power _ power) in
-      (ltb-false _ _ (tests .0), cc)
+      let tests = cond-passed (ltb (firstOutOfRange basicFirst m) 9) e (refused-no-power _ power) in
+      (ltb-false _ _ (tests .0), tests .1)
 
 module _ (callsign locator : List ℕ) (m : Measured) where
   pub written-length : rightLengths (length callsign) (length locator) ≡ false → telemetryWritten callsign locator m ≡ MessageAnswer.Refused (refusal wrongLength 0)
@@ -52,72 +52,90 @@ module _ (callsign locator : List ℕ) (m : Measured) where
   unfolding telemetryWritten
   written-measured e = rw e
 
+  pub measured-of-written : (power : ℕ) → telemetryWritten callsign locator m ≡ MessageAnswer.Power power → measuredMessage m ≡ MessageAnswer.Power power
+  unfolding telemetryWritten
+  measured-of-written power e = cond-passed (not (rightLengths (length callsign) (length locator))) e (refused-no-power _ power) .1
+
 -- ---- The cases of reading the two numbers
 
-module _ (n : Payload) where
-  pub numbers-extended : n .lower % 2 ≡ 0 → payloadTelemetry n ≡ TelemetryAnswer.Refused (refusal extendedTelemetry 0)
-  unfolding payloadTelemetry
-  numbers-extended e = rw (eq-eqb _ 0 e)
+module _ (p : Payload) where
+  pub numbers-position : 615_168 ≤ p .upper → numbersTelemetry p ≡ TelemetryAnswer.Refused (refusal badPositionNumber 0)
+  unfolding numbersTelemetry
+  numbers-position h = rw (le-leb 615_168 (p .upper) h)
 
-  module _ (odd : n .lower % 2 ≡ 0 → ⊥) where
-    pub numbers-position : 615_168 ≤ n .upper → payloadTelemetry n ≡ TelemetryAnswer.Refused (refusal badPositionNumber 0)
-    unfolding payloadTelemetry
-    numbers-position h = rw (ne-eqb _ 0 odd, le-leb 615_168 (n .upper) h)
+  module _ (position : p .upper < 615_168) where
+    pub numbers-sensors : 604_800 ≤ p .lower → numbersTelemetry p ≡ TelemetryAnswer.Refused (refusal badSensorNumber 0)
+    unfolding numbersTelemetry
+    numbers-sensors h = rw (lt-leb 615_168 (p .upper) position, le-leb 604_800 (p .lower) h)
 
-    module _ (position : n .upper < 615_168) where
-      pub numbers-sensors : 604_800 ≤ n .lower → payloadTelemetry n ≡ TelemetryAnswer.Refused (refusal badSensorNumber 0)
-      unfolding payloadTelemetry
-      numbers-sensors h = rw (ne-eqb _ 0 odd, lt-leb 615_168 (n .upper) position, le-leb 604_800 (n .lower) h)
+    pub numbers-reading : p .lower < 604_800 → numbersTelemetry p ≡ TelemetryAnswer.Telemetry (readingOf p)
+    unfolding numbersTelemetry
+    numbers-reading h = rw (lt-leb 615_168 (p .upper) position, lt-leb 604_800 (p .lower) h)
 
-      pub numbers-reading : n .lower < 604_800 → payloadTelemetry n ≡ TelemetryAnswer.Telemetry (readingOf (n .first) (n .third) (n .upper) (n .lower))
-      unfolding payloadTelemetry
-      numbers-reading h = rw (ne-eqb _ 0 odd, lt-leb 615_168 (n .upper) position, lt-leb 604_800 (n .lower) h)
+  pub basic-extended : (p .lower % 2 ≡ basicBit → ⊥) → basicTelemetry p ≡ TelemetryAnswer.Refused (refusal extendedTelemetry 0)
+  unfolding basicTelemetry
+  basic-extended e = rw (ne-eqb _ basicBit e)
 
--- ---- The cases of reading a message
+  pub basic-numbers : p .lower % 2 ≡ basicBit → basicTelemetry p ≡ numbersTelemetry p
+  unfolding basicTelemetry
+  basic-numbers e = rw (eq-eqb _ basicBit e)
+
+-- ---- The cases of reading a message, and the message of a word
 
 module _ (callsign locator : List ℕ) (power : ℕ) where
-  pub decoded-refused : (f : Refusal) → payloadRead callsign locator power ≡ PayloadAnswer.Refused f → telemetryRead callsign locator power ≡ TelemetryAnswer.Refused f
+  pub read-refused : (f : Refusal) → payloadRead basicFirst callsign locator power ≡ PayloadAnswer.Refused f
+      → telemetryRead callsign locator power ≡ TelemetryAnswer.Refused f
   unfolding telemetryRead telemetryIfPayload
-  decoded-refused f e = rw e
+  read-refused f e = rw e
 
-  pub decoded-numbers : (n : Payload) → payloadRead callsign locator power ≡ PayloadAnswer.Payload n → telemetryRead callsign locator power ≡ payloadTelemetry n
+  pub read-payload : (p : Payload) → payloadRead basicFirst callsign locator power ≡ PayloadAnswer.Payload p
+      → telemetryRead callsign locator power ≡ basicTelemetry p
   unfolding telemetryRead telemetryIfPayload
-  decoded-numbers n e = rw e
+  read-payload p e = rw e
+
+module _ (callsign locator : List ℕ) (word : ℕ) (right : rightLengths (length callsign) (length locator) ≡ true) where
+  pub word-refused : (f : Refusal) → unpacked callsign locator word ≡ MessageAnswer.Refused f → wordTelemetry word ≡ TelemetryAnswer.Refused f
+  unfolding wordTelemetry telemetryIfMessage
+  word-refused f e = rw (sym (unpacked-read callsign locator word right) ∙ e)
+
+  pub word-read : (power : ℕ) → unpacked callsign locator word ≡ MessageAnswer.Power power
+      → wordTelemetry word ≡ telemetryRead (callsignAfterUnpack callsign locator word) (locatorAfterUnpack callsign locator word) power
+  unfolding wordTelemetry telemetryIfMessage callsignAfterUnpack locatorAfterUnpack contentAfter
+  word-read power e = rw (e, sym (unpacked-read callsign locator word right) ∙ e)
 
 -- ---- What is read
 
--- The numbers are those of basic telemetry, and these are their readings.
-pub record Basic (n : Payload) (r : Reading) : Type 0 where
-  pub odd : n .lower % 2 ≡ 0 → ⊥
-  pub position : n .upper < 615_168
-  pub sensors : n .lower < 604_800
-  pub its-reading : r ≡ readingOf (n .first) (n .third) (n .upper) (n .lower)
+-- The numbers hold readings, and these are they.
+pub record HoldsReading (p : Payload) (r : Reading) : Type 0 where
+  pub position : p .upper < 615_168
+  pub sensors : p .lower < 604_800
+  pub is-reading : r ≡ readingOf p
 
 refused-no-reading : (f : Refusal) (r : Reading) → TelemetryAnswer.Refused f ≡ TelemetryAnswer.Telemetry r → ⊥
 refused-no-reading f r e = let z : _≡_ {A = ℕ} 0 1 = cc in omega arith
 
-basic-numbers : (n : Payload) (r : Reading) → payloadTelemetry n ≡ TelemetryAnswer.Telemetry r → Basic n r
-unfolding payloadTelemetry
-basic-numbers n r e =
-    let parity = cond-passed (eqb (n .lower % 2) 0) e (refused-no-reading _ r) in
-    let position = cond-passed (leb 615_168 (n .upper)) (parity .1) (refused-no-reading _ r) in
-    let sensors = cond-passed (leb 604_800 (n .lower)) (position .1) (refused-no-reading _ r) in
-    record {
-      odd = eqb-false _ _ (parity .0);
-      position = leb-false _ _ (position .0);
-      sensors = leb-false _ _ (sensors .0);
-      its-reading = cc;
-    }
+pub holds-reading : (p : Payload) (r : Reading) → numbersTelemetry p ≡ TelemetryAnswer.Telemetry r → HoldsReading p r
+unfolding numbersTelemetry
+holds-reading p r e =
+    let position = cond-passed (leb 615_168 (p .upper)) e (refused-no-reading _ r) in
+    let sensors = cond-passed (leb 604_800 (p .lower)) (position .1) (refused-no-reading _ r) in
+    record { position = leb-false _ _ (position .0); sensors = leb-false _ _ (sensors .0); is-reading = cc }
 
--- A message that is read carries such numbers.
+is-basic : (p : Payload) (r : Reading) → basicTelemetry p ≡ TelemetryAnswer.Telemetry r → (p .lower % 2 ≡ basicBit) × HoldsReading p r
+unfolding basicTelemetry
+is-basic p r e =
+    let lowest = cond-passed (not (eqb (p .lower % 2) basicBit)) e (refused-no-reading _ r) in
+    (eqb-true _ _ (not-false _ (lowest .0)), holds-reading p r (lowest .1))
+
+-- A message that is read has a payload that is basic telemetry's.
 pub basic : (callsign locator : List ℕ) (power : ℕ) (r : Reading) → telemetryRead callsign locator power ≡ TelemetryAnswer.Telemetry r
-    → (n : Payload) × ((payloadRead callsign locator power ≡ PayloadAnswer.Payload n) × Basic n r)
-basic callsign locator power r e = go (payloadRead callsign locator power) refl
+    → (p : Payload) × ((payloadRead basicFirst callsign locator power ≡ PayloadAnswer.Payload p) × ((p .lower % 2 ≡ basicBit) × HoldsReading p r))
+basic callsign locator power r e = go (payloadRead basicFirst callsign locator power) refl
   where
-    go : (answer : PayloadAnswer) → payloadRead callsign locator power ≡ answer
-        → (n : Payload) × ((payloadRead callsign locator power ≡ PayloadAnswer.Payload n) × Basic n r)
-    go (PayloadAnswer.Payload n) p = (n, (p, basic-numbers n r (sym (decoded-numbers callsign locator power n p) ∙ e)))
-    go (PayloadAnswer.Refused f) p = absurd (refused-no-reading f r (sym (decoded-refused callsign locator power f p) ∙ e))
+    go : (answer : PayloadAnswer) → payloadRead basicFirst callsign locator power ≡ answer
+        → (p : Payload) × ((payloadRead basicFirst callsign locator power ≡ PayloadAnswer.Payload p) × ((p .lower % 2 ≡ basicBit) × HoldsReading p r))
+    go (PayloadAnswer.Payload p) k = (p, (k, is-basic p r (sym (read-payload callsign locator power p k) ∙ e)))
+    go (PayloadAnswer.Refused f) k = absurd (refused-no-reading f r (sym (read-refused callsign locator power f k) ∙ e))
 
 -- ---- The refusal number 0 is that of the answers that are no refusal
 
@@ -125,27 +143,27 @@ pub written-answered : (callsign locator : List ℕ) (m : Measured) → messageN
     → telemetryWritten callsign locator m ≡ MessageAnswer.Power (messageNumbers (telemetryWritten callsign locator m) .power)
 unfolding telemetryWritten measuredMessage messageNumbers
 written-answered callsign locator m =
-    let P : MessageAnswer → Type 0 = λ a. messageNumbers a .number ≡ 0 → a ≡ MessageAnswer.Power (messageNumbers a .power) in
-    cond-both P (not (rightLengths (length callsign) (length locator))) (λ z. absurd (omega arith))
-    (cond-both P (ltb (firstOutOfRange m) 9) (λ z. absurd (omega arith)) (λ z. refl))
+    cond-both Answered (not (rightLengths (length callsign) (length locator))) (λ z. absurd (omega arith))
+    (cond-both Answered (ltb (firstOutOfRange basicFirst m) 9) (λ z. absurd (omega arith)) (message-answered basicFirst (payloadFrom basicBit m)))
 
 -- An answer with the refusal number 0 has readings.
-Answered : TelemetryAnswer → Type 0
-Answered a = telemetryNumbers a .number ≡ 0 → a ≡ TelemetryAnswer.Telemetry (telemetryNumbers a .reading)
+HasReading : TelemetryAnswer → Type 0
+HasReading a = telemetryNumbers a .number ≡ 0 → a ≡ TelemetryAnswer.Telemetry (telemetryNumbers a .reading)
 
-numbers-answered : (n : Payload) → Answered (payloadTelemetry n)
-unfolding Answered payloadTelemetry telemetryNumbers
-numbers-answered n =
-    cond-both Answered (eqb (n .lower % 2) 0) (λ z. absurd (omega arith))
-    (cond-both Answered (leb 615_168 (n .upper)) (λ z. absurd (omega arith))
-    (cond-both Answered (leb 604_800 (n .lower)) (λ z. absurd (omega arith)) (λ z. refl)))
+numbers-answered : (p : Payload) → HasReading (basicTelemetry p)
+unfolding HasReading basicTelemetry numbersTelemetry telemetryNumbers
+numbers-answered p =
+    cond-both HasReading (not (eqb (p .lower % 2) basicBit)) (λ z. absurd (omega arith))
+    (cond-both HasReading (leb 615_168 (p .upper)) (λ z. absurd (omega arith))
+    (cond-both HasReading (leb 604_800 (p .lower)) (λ z. absurd (omega arith)) (λ z. refl)))
 
-carried-answered : (answer : PayloadAnswer) → ((f : Refusal) → answer ≡ PayloadAnswer.Refused f → f .number ≡ 0 → ⊥) → Answered (telemetryIfPayload answer)
-unfolding Answered telemetryIfPayload telemetryNumbers
-carried-answered (PayloadAnswer.Payload n) h = numbers-answered n
-carried-answered (PayloadAnswer.Refused f) h = λ z. absurd (h f refl z)
+payload-answered : (answer : PayloadAnswer) → ((f : Refusal) → answer ≡ PayloadAnswer.Refused f → f .number ≡ 0 → ⊥) → HasReading (telemetryIfPayload answer)
+unfolding HasReading telemetryIfPayload telemetryNumbers
+payload-answered (PayloadAnswer.Payload p) h = numbers-answered p
+payload-answered (PayloadAnswer.Refused f) h = λ z. absurd (h f refl z)
 
-pub decoded-answered : (callsign locator : List ℕ) (power : ℕ) → telemetryNumbers (telemetryRead callsign locator power) .number ≡ 0
+pub read-answered : (callsign locator : List ℕ) (power : ℕ) → telemetryNumbers (telemetryRead callsign locator power) .number ≡ 0
     → telemetryRead callsign locator power ≡ TelemetryAnswer.Telemetry (telemetryNumbers (telemetryRead callsign locator power) .reading)
-unfolding Answered telemetryRead
-decoded-answered callsign locator power = carried-answered (payloadRead callsign locator power) (refused-nonzero callsign locator power)
+unfolding HasReading telemetryRead
+read-answered callsign locator power =
+    payload-answered (payloadRead basicFirst callsign locator power) (refused-nonzero basicFirst callsign locator power)

@@ -3,12 +3,15 @@ use mathlib.Core.Path.{_≡_, refl, ap}
 use Prim.Native.Nat.{ℕ, zero, suc, _+_, _-_, _*_, _/_, _≤_, _<_}
 use native.Mathlib.Omega.{arith}
 use mathlib.Core.Bool.{true, _&&_}
+use mathlib.Core.List.{List, [], _∷_, _++_, map}
 use lib.Dec.{eqb, leb}
-use lib.IntN.{ℤ, pos, negsuc, negℤ, natAbs, _+ℤ_, _*ℤ_}
+use lib.IntN.{ℤ, pos, negsuc, negℤ, natAbs, subℕ, _+ℤ_, _*ℤ_}
+use lib.ListN.{replicate}
 use lib.Signed.{mag, quotZ}
 use mir.Syntax.{w32}
 use mir.Val.{SFits}
 use borrow.Author.Tests.{eqb-true, leb-true, le-ltb, lt-ltb}
+use Rattle.basics.specs.Lists.{tabulate}
 use Rattle.basics.proofs.Choice.{both-true, below-or-not}
 use Rattle.basics.proofs.Tables.{below-at}
 use Rattle.telemetry.specs.Ranges.{temperatureInRange}
@@ -70,6 +73,17 @@ pub temperature-back : (code : ℕ) → code < 90
 temperature-back code h =
     let tests = both-true (temperatureInRange (degrees code *ℤ pos 10)) _ (back-tests code h) in
     (tests .0, eqb-true _ _ (tests .1))
+
+-- The code of a temperature, and the degrees that are read back.
+unfoldable pub readBack : ℤ → ℕ × ℤ
+readBack tenths = (temperatureCode tenths, degrees (temperatureCode tenths))
+
+-- Those of -500, of -9 to 9, and of 399 tenths: the ends have the first and the last code, and all about zero has the code of 0 degrees.
+pub temperature-around-zero-and-ends :
+    map readBack (negℤ (pos 500) ∷ map (λ (n : ℕ). subℕ n 9) (tabulate 19 (λ n. n)) ++ (pos 399 ∷ []))
+    ≡ (0, negℤ (pos 50)) ∷ replicate 19 (50, pos 0) ++ ((89, pos 39) ∷ [])
+unfolding readBack temperatureCode degrees tabulate
+temperature-around-zero-and-ends = refl
 
 -- ---- Altitude, voltage and speed
 

@@ -14,31 +14,35 @@ use Rattle.telemetry.specs.declared.TelemetryAnswer.{TelemetryAnswer}
 
 -- What is read back of what was measured: each reading back of its code.
 unfoldable pub quantised : Measured → Reading
-quantised m = record {
-  first = m .first;
-  third = m .third;
-  grid5 = m .grid5;
-  grid6 = m .grid6;
-  altitude = metres (altitudeCode (m .altitude));
-  temperature = degrees (temperatureCode (m .temperature));
-  voltage = millivolts (voltageCode (m .voltage));
-  speed = knots (speedCode (m .speed));
-  gps = m .gps;
-}
+quantised m =
+    let s = m .sensors in
+    record {
+      channel = m .channel;
+      square = m .square;
+      sensors = record {
+        altitude = metres (altitudeCode (s .altitude));
+        temperature = degrees (temperatureCode (s .temperature));
+        voltage = millivolts (voltageCode (s .voltage));
+        speed = knots (speedCode (s .speed));
+        gps = s .gps;
+      };
+    }
 
 -- A reading as what is sent: degrees and knots in tenths.
 unfoldable pub inTenths : Reading → Measured
-inTenths r = record {
-  first = r .first;
-  third = r .third;
-  grid5 = r .grid5;
-  grid6 = r .grid6;
-  altitude = r .altitude;
-  temperature = r .temperature *ℤ pos 10;
-  voltage = r .voltage;
-  speed = r .speed * 10;
-  gps = r .gps;
-}
+inTenths r =
+    let s = r .sensors in
+    record {
+      channel = r .channel;
+      square = r .square;
+      sensors = record {
+        altitude = s .altitude;
+        temperature = s .temperature *ℤ pos 10;
+        voltage = s .voltage;
+        speed = s .speed * 10;
+        gps = s .gps;
+      };
+    }
 
 -- This message is written from what was measured.
 pub record MeasuredWritesAs (m : Measured) (callsign locator : List ℕ) (power : ℕ) : Type 0 where

@@ -3,21 +3,21 @@ mod codes;
 mod range;
 
 ghost use mathlib.Core.Path.{_≡_};
-ghost use Rattle.telemetry.specs.Answer.{telemetryWritten, callsignAfterWrite, locatorAfterWrite, telemetryRead};
+ghost use Rattle.message.specs.Answer.{messageNumbers};
+ghost use Rattle.telemetry.specs.Answer.{telemetryWritten, callsignAfterWrite, locatorAfterWrite, telemetryRead, wordTelemetry, telemetryNumbers};
 ghost use Rattle.telemetry.specs.RoundTrip.{TelemetryReadsBack, TelemetryWritesBack, TelemetryRefusedExactly};
 use message::MessageAnswer;
 use refusal::OUT_OF_RANGE;
 use refusal::Refusal;
 use refusal::WRONG_LENGTH;
 use u4b::PayloadAnswer;
+use u4b::channel::Channel;
+use u4b::channel::FirstCharacters;
+use u4b::channel::SubSquare;
 
-// What is sent: the channel's two characters, the two letters of the sub-square, and what was
-// measured, in metres, tenths of a degree, millivolts and tenths of a knot; GPS is 0 or 1.
-pub struct Measured {
-    pub first: u8,
-    pub third: u8,
-    pub grid5: u8,
-    pub grid6: u8,
+// What the sensors of a balloon give; GPS is 0 or 1.
+#[repr(C)]
+pub struct Sensors {
     pub altitude: u32,
     pub temperature: i32,
     pub voltage: u32,
@@ -25,17 +25,19 @@ pub struct Measured {
     pub gps: u32,
 }
 
-// What is read back, in metres, degrees, millivolts and knots.
+// What is sent: the sensors in metres, tenths of a degree, millivolts and tenths of a knot.
+pub struct Measured {
+    pub channel: Channel,
+    pub square: SubSquare,
+    pub sensors: Sensors,
+}
+
+// What is read back: the sensors in metres, degrees, millivolts and knots.
+#[repr(C)]
 pub struct Reading {
-    pub first: u8,
-    pub third: u8,
-    pub grid5: u8,
-    pub grid6: u8,
-    pub altitude: u32,
-    pub temperature: i32,
-    pub voltage: u32,
-    pub speed: u32,
-    pub gps: u32,
+    pub channel: Channel,
+    pub square: SubSquare,
+    pub sensors: Sensors,
 }
 
 // The answer of `read`.
@@ -47,6 +49,7 @@ pub enum TelemetryAnswer {
 // The message of what was measured: its callsign and locator are written, its power is the answer.
 pub fn write(measured: Measured, callsign: &mut [u8], locator: &mut [u8]) -> MessageAnswer
     ensures answer { λ r. ⌜ r ≡ telemetryWritten (now (callsign .entry)) (now (locator .entry)) measured ⌝ }
+    ensures numbers { λ r. ⌜ messageNumbers r ≡ messageNumbers (telemetryWritten (now (callsign .entry)) (now (locator .entry)) measured) ⌝ }
     ensures callsign_after { λ _. ⌜ now (callsign .exit) ≡ callsignAfterWrite (now (callsign .entry)) (now (locator .entry)) measured ⌝ }
     ensures locator_after { λ _. ⌜ now (locator .exit) ≡ locatorAfterWrite (now (callsign .entry)) (now (locator .entry)) measured ⌝ }
     ensures reads_back { λ r. ⌜ TelemetryReadsBack r measured (now (callsign .exit)) (now (locator .exit)) ⌝ }
@@ -57,25 +60,39 @@ pub fn write(measured: Measured, callsign: &mut [u8], locator: &mut [u8]) -> Mes
             place: 0,
         });
     }
-    let bad = range::first_out_of_range(measured);
+    let bad = range::first_out_of_range(FirstCharacters::ZeroOneQ, measured);
     if bad < 9 {
         return MessageAnswer::Refused(Refusal {
             number: OUT_OF_RANGE,
             place: bad,
         });
     }
-    let numbers = codes::payload_from(measured);
-    MessageAnswer::Power(u4b::write(numbers, callsign, locator))
+    let payload = codes::payload_from(codes::BASIC_BIT, measured);
+    u4b::write(FirstCharacters::ZeroOneQ, payload, callsign, locator)
 }
 
 // What a message says, where it is one of basic telemetry.
 pub fn read(callsign: &[u8], locator: &[u8], power: u32) -> TelemetryAnswer
     ensures answer { λ r. ⌜ r ≡ telemetryRead (now (callsign .entry)) (now (locator .entry)) power ⌝ }
+    ensures numbers { λ r. ⌜ telemetryNumbers r ≡ telemetryNumbers (telemetryRead (now (callsign .entry)) (now (locator .entry)) power) ⌝ }
     ensures writes_back { λ r. ⌜ TelemetryWritesBack r (now (callsign .entry)) (now (locator .entry)) power ⌝ }
     ensures refuses_exactly { λ r. ⌜ TelemetryRefusedExactly r (now (callsign .entry)) (now (locator .entry)) power ⌝ }
 {
-    match u4b::read(callsign, locator, power) {
-        PayloadAnswer::Payload(numbers) => codes::read_numbers(numbers),
+    match u4b::read(FirstCharacters::ZeroOneQ, callsign, locator, power) {
+        PayloadAnswer::Payload(payload) => codes::read_basic(payload),
         PayloadAnswer::Refused(refusal) => TelemetryAnswer::Refused(refusal),
+    }
+}
+
+// What the message of a word says, where it is one of basic telemetry.
+pub fn read_word(word: u64) -> TelemetryAnswer
+    ensures answer { λ r. ⌜ r ≡ wordTelemetry word ⌝ }
+    ensures numbers { λ r. ⌜ telemetryNumbers r ≡ telemetryNumbers (wordTelemetry word) ⌝ }
+{
+    let mut callsign = [0u8; 6];
+    let mut locator = [0u8; 4];
+    match message::unpack(word, &mut callsign, &mut locator) {
+        MessageAnswer::Power(power) => read(&callsign, &locator, power),
+        MessageAnswer::Refused(refusal) => TelemetryAnswer::Refused(refusal),
     }
 }

@@ -14,6 +14,7 @@ use Rattle.basics.specs.Ascii.{bytes}
 use Rattle.io.specs.Digits.{glyph, digits, Fewest}
 use Rattle.basics.proofs.Choice.{cond-both}
 use Rattle.telemetry.specs.declared.Reading.{Reading}
+use Rattle.telemetry.specs.declared.Sensors.{Sensors}
 use Rattle.telemetry.specs.declared.TelemetryAnswer.{TelemetryAnswer}
 use Rattle.refusal.specs.declared.Refusal.{Refusal}
 use Rattle.telemetry_lines.specs.Text.{minus, digitCharacter, decimalOf, decimalText, integerText, lineOf, readingText, refusalText, answerText, longestLine}
@@ -41,14 +42,15 @@ length-integer (negsuc n) = omega (arith, length-decimal (suc n))
 length-reading : (r : Reading) → length (readingText r) ≤ longestLine
 unfolding readingText lineOf
 length-reading r =
+    let s = r .sensors in
     simp length-append
     (omega (
       arith,
-      length-decimal (r .altitude),
-      length-integer (r .temperature),
-      length-decimal (r .voltage),
-      length-decimal (r .speed),
-      length-decimal (r .gps),
+      length-decimal (s .altitude),
+      length-integer (s .temperature),
+      length-decimal (s .voltage),
+      length-decimal (s .speed),
+      length-decimal (s .gps),
     ))
 
 length-refusal : (f : Refusal) → length (refusalText f) ≤ longestLine
@@ -114,14 +116,14 @@ integer-positive (negsuc n) e = absurd (true≢false e)
 
 -- ---- A reading's line in its parts
 
-pub reading-parts : (r : Reading) → positionText r ++ (firstSensorText r ++ lastSensorText r) ≡ readingText r
+pub reading-parts : (r : Reading) → positionText r ++ (firstSensorText (r .sensors) ++ lastSensorText (r .sensors)) ≡ readingText r
 unfolding readingText lineOf positionText firstSensorText lastSensorText
 reading-parts r = simp append-assoc
 
 pub length-position : (r : Reading) → length (positionText r) ≤ 16
 unfolding positionText
-length-position r = omega (arith, length-decimal (r .altitude))
+length-position r = omega (arith, length-decimal (r .sensors .altitude))
 
-pub length-first-sensors : (r : Reading) → length (firstSensorText r) ≤ 23
+pub length-first-sensors : (s : Sensors) → length (firstSensorText s) ≤ 23
 unfolding firstSensorText
-length-first-sensors r = simp length-append (omega (arith, length-integer (r .temperature), length-decimal (r .voltage)))
+length-first-sensors s = simp length-append (omega (arith, length-integer (s .temperature), length-decimal (s .voltage)))

@@ -56,14 +56,15 @@ header = lineOf (bytes "CH GR ALT TEMP MV KT GPS" ∷ [])
 -- The channel's characters, the letters of the sub-square, metres, degrees, millivolts, knots and GPS.
 unfoldable pub readingText : Reading → List ℕ
 readingText r =
+    let s = r .sensors in
     lineOf
-    ((r .first ∷ r .third ∷ [])
-    ∷ (r .grid5 ∷ r .grid6 ∷ [])
-    ∷ decimalText (r .altitude)
-    ∷ integerText (r .temperature)
-    ∷ decimalText (r .voltage)
-    ∷ decimalText (r .speed)
-    ∷ decimalText (r .gps)
+    ((r .channel .first ∷ r .channel .third ∷ [])
+    ∷ (r .square .grid5 ∷ r .square .grid6 ∷ [])
+    ∷ decimalText (s .altitude)
+    ∷ integerText (s .temperature)
+    ∷ decimalText (s .voltage)
+    ∷ decimalText (s .speed)
+    ∷ decimalText (s .gps)
     ∷ [])
 
 -- "refused", the refusal's number and its place.

@@ -10,6 +10,7 @@ ghost use Rattle.telemetry_lines.specs.Pieces.{positionText, firstSensor
 ghost use Rattle.telemetry_lines.specs.Buffer.{Put};
 use refusal::Refusal;
 use telemetry::Reading;
+use telemetry::Sensors;
 use telemetry::TelemetryAnswer;
 
 fn put(text: &[u8], out: &mut [u8], at: usize) -> usize
@@ -92,33 +93,36 @@ fn put_position(reading: Reading, out: &mut [u8], at: usize) -> usize
     requires { ⌜ at + 16 ≤ length (now out) ⌝ }
     ensures { λ r. ⌜ Put (now (out .entry)) (now (out .exit)) at r (positionText reading) ⌝ }
 {
+    let channel = reading.channel;
+    let square = reading.square;
+    let sensors = reading.sensors;
     let characters = [
-        reading.first,
-        reading.third,
+        channel.first,
+        channel.third,
         b' ',
-        reading.grid5,
-        reading.grid6,
+        square.grid5,
+        square.grid6,
     ];
     let next = put(&characters, out, at);
-    put_field(reading.altitude, out, next)
+    put_field(sensors.altitude, out, next)
 }
 
 // Temperature and voltage.
-fn put_first_sensors(reading: Reading, out: &mut [u8], at: usize) -> usize
+fn put_first_sensors(sensors: Sensors, out: &mut [u8], at: usize) -> usize
     requires { ⌜ at + 23 ≤ length (now out) ⌝ }
-    ensures { λ r. ⌜ Put (now (out .entry)) (now (out .exit)) at r (firstSensorText reading) ⌝ }
+    ensures { λ r. ⌜ Put (now (out .entry)) (now (out .exit)) at r (firstSensorText sensors) ⌝ }
 {
-    let next = put_signed_field(reading.temperature, out, at);
-    put_field(reading.voltage, out, next)
+    let next = put_signed_field(sensors.temperature, out, at);
+    put_field(sensors.voltage, out, next)
 }
 
 // Speed and GPS, and the end of the line.
-fn put_last_sensors(reading: Reading, out: &mut [u8], at: usize) -> usize
+fn put_last_sensors(sensors: Sensors, out: &mut [u8], at: usize) -> usize
     requires { ⌜ at + 23 ≤ length (now out) ⌝ }
-    ensures { λ r. ⌜ Put (now (out .entry)) (now (out .exit)) at r (lastSensorText reading) ⌝ }
+    ensures { λ r. ⌜ Put (now (out .entry)) (now (out .exit)) at r (lastSensorText sensors) ⌝ }
 {
-    let at_gps = put_field(reading.speed, out, at);
-    let end = put_field(reading.gps, out, at_gps);
+    let at_gps = put_field(sensors.speed, out, at);
+    let end = put_field(sensors.gps, out, at_gps);
     put_byte(b'\n', out, end)
 }
 
@@ -126,9 +130,10 @@ fn put_reading(reading: Reading, out: &mut [u8], at: usize) -> usize
     requires { ⌜ at + longestLine ≤ length (now out) ⌝ }
     ensures { λ r. ⌜ Put (now (out .entry)) (now (out .exit)) at r (readingText reading) ⌝ }
 {
+    let sensors = reading.sensors;
     let at_first = put_position(reading, out, at);
-    let at_last = put_first_sensors(reading, out, at_first);
-    put_last_sensors(reading, out, at_last)
+    let at_last = put_first_sensors(sensors, out, at_first);
+    put_last_sensors(sensors, out, at_last)
 }
 
 fn put_refusal(refusal: Refusal, out: &mut [u8], at: usize) -> usize

@@ -1,21 +1,26 @@
--- Laws of the callsign: the channel and the upper number in it and back, both ways, and that what is written is legal and telemetry.
+-- Laws of the callsign: the channel and the upper number in it and back, both ways, and that what is written is legal and taken.
 use mathlib.Core.Path.{_≡_, refl, sym, ap, _∙_, subst}
-use Prim.Native.Nat.{ℕ, _+_, _-_, _≤_, _<_}
+use Prim.Native.Nat.{ℕ, _+_, _%_, _≤_, _<_}
 use native.Mathlib.Omega.{arith}
 use mathlib.Core.Bool.{true, true≢false, not}
 use mathlib.Core.List.{List, [], _∷_}
 use lib.Dec.{eqb}
-use lib.ListN.{length, getD}
+use lib.ListN.{length, getD, set}
 use borrow.Author.Tests.{eqb-true, eq-eqb, ne-eqb}
 use Rattle.basics.specs.Lists.{tabulate}
 use Rattle.basics.proofs.Choice.{by-test, equal-or-not, between-true, between-range}
 use Rattle.basics.proofs.ListLaws.{AllPass, all-pass, none-fails, by-places}
-use Rattle.radix.specs.Numeral.{Digits, Positive, count, digitsOf}
-use Rattle.radix.proofs.Laws.{digits-in-range, digitsOf-numberOf, numberOf-digitsOf}
+use Rattle.radix.specs.Numeral.{Digits, Positive, count, numberOf, digitsOf}
+use Rattle.radix.proofs.Laws.{digits-in-range, digitsOf-numberOf}
 use Rattle.message.specs.Character.{value, character, setAt, callsignSets, locatorSets, legalAt, digitAt, characterAt, overPlaces, digitsFrom, charactersFrom, DigitsAt}
 use Rattle.message.proofs.CharacterLaws.{AllLegal, value-digit, character-digit, character-letter, character-space, character-value, legal-from, legal-end, digits-of-legal, characters-of-digits, legal-of-digits, digits-of-characters}
 use Rattle.u4b.specs.Channel.{isFirstCharacter, isThirdCharacter}
-use Rattle.u4b.specs.Characters.{upperRadices, callsignWith, upperOf, telemetryAt, firstNotTelemetry}
+use Rattle.u4b.specs.Alphabet.{takenAt, firstNotTaken}
+use Rattle.u4b.specs.Characters.{upperRadices, callsignWith, upperDigits, upperOf}
+use Rattle.u4b.specs.Answer.{lettersAlone}
+use Rattle.u4b.specs.declared.channel.Channel.{Channel}
+use Rattle.u4b.specs.declared.channel.FirstCharacters.{FirstCharacters}
+use Rattle.u4b.proofs.NumberLaws.{numberOf-digitsOf-part}
 
 -- ---- The radices
 
@@ -27,91 +32,30 @@ pub upper-count : count upperRadices ≡ 632_736
 unfolding count upperRadices
 upper-count = refl
 
--- ---- The callsign with a number
+-- ---- The channel's characters
 
--- The digits at the six places, from those of the channel's characters and of the number.
-abbrev pub sixDigits : ℕ → ℕ → List ℕ → List ℕ
-sixDigits first third p = digitAt 0 first ∷ getD p 0 0 ∷ digitAt 2 third ∷ getD p 1 0 ∷ getD p 2 0 ∷ getD p 3 0 ∷ []
-
--- The number's digits, from those at the six places.
-abbrev pub fourDigits : List ℕ → List ℕ
-fourDigits d = getD d 1 0 ∷ getD d 3 0 ∷ getD d 4 0 ∷ getD d 5 0 ∷ []
-
--- What holds of 0, 1 and Q holds of the channel's first character.
-first-cases : (P : ℕ → Type 0) (byte : ℕ) → isFirstCharacter byte ≡ true → P 48 → P 49 → P 81 → P byte
+-- What holds of 0, 1 and Q holds of any first character that is taken.
+first-cases : (P : ℕ → Type 0) (taken : FirstCharacters) (byte : ℕ) → isFirstCharacter taken byte ≡ true → P 48 → P 49 → P 81 → P byte
 unfolding isFirstCharacter
-first-cases P byte e p q r =
+first-cases P FirstCharacters.ZeroOneQ byte e p q r =
     by-test (eqb byte 48) (λ t. subst P (sym (eqb-true byte 48 t)) p)
     (λ f. by-test (eqb byte 49) (λ t. subst P (sym (eqb-true byte 49 t)) q)
     (λ g. subst P (sym (eqb-true byte 81 (rw (f, g) at e))) r))
+first-cases P FirstCharacters.ZeroQ byte e p q r =
+    by-test (eqb byte 48) (λ t. subst P (sym (eqb-true byte 48 t)) p)
+    (λ f. subst P (sym (eqb-true byte 81 (rw f at e))) r)
 
 -- The channel's characters are legal at their places.
-first-legal : (byte : ℕ) → isFirstCharacter byte ≡ true → legalAt 0 byte ≡ true
+pub first-legal : (taken : FirstCharacters) (byte : ℕ) → isFirstCharacter taken byte ≡ true → legalAt 0 byte ≡ true
 unfolding legalAt value setAt callsignSets locatorSets
-first-legal byte e = first-cases (λ b. legalAt 0 b ≡ true) byte e refl refl refl
+first-legal taken byte e = first-cases (λ b. legalAt 0 b ≡ true) taken byte e refl refl refl
 
-third-legal : (byte : ℕ) → isThirdCharacter byte ≡ true → legalAt 2 byte ≡ true
+pub third-legal : (byte : ℕ) → isThirdCharacter byte ≡ true → legalAt 2 byte ≡ true
 unfolding setAt callsignSets locatorSets
 third-legal byte e =
     let r = between-range 48 57 byte e in
     let v = value-digit (r .0) (r .1) in
     legal-from 2 byte (omega arith) (omega arith)
-
--- A letter is no space.
-no-space : (v : ℕ) → 10 ≤ v → v < 36 → not (eqb (character v) 32) ≡ true
-no-space v h k = rw (character-letter h k, ne-eqb (v + 55) 32 (λ e. omega arith))
-
-pub callsignWith-length : (first third a : ℕ) → length (callsignWith first third a) ≡ 6
-unfolding callsignWith
-callsignWith-length first third a = refl
-
-module _ (first third : ℕ) (is-first : isFirstCharacter first ≡ true) (is-third : isThirdCharacter third ≡ true) where
-  -- The six digits are in their places' sets.
-  pub six-digits-at : (a : ℕ) → DigitsAt 0 (sixDigits first third (digitsOf upperRadices a))
-  unfolding AllPass Digits DigitsAt digitsFrom overPlaces digitsOf setAt callsignSets locatorSets upperRadices
-  six-digits-at a =
-      let p = digits-in-range upperRadices a upper-positive in
-      let d0 = digits-of-legal 0 (first ∷ []) (first-legal first is-first, tt) .0 in
-      let d2 = digits-of-legal 2 (third ∷ []) (third-legal third is-third, tt) .0 in
-      (d0, (p .0, (d2, (omega arith, (omega arith, (omega arith, tt))))))
-
-  -- The callsign is the characters of those digits.
-  pub callsignWith-characters : (a : ℕ) → callsignWith first third a ≡ charactersFrom 0 (sixDigits first third (digitsOf upperRadices a))
-  unfolding AllPass callsignWith charactersFrom digitsFrom overPlaces
-  callsignWith-characters a =
-      let c0 = ap (λ (l : List ℕ). getD l 0 0) (characters-of-digits 0 (first ∷ []) (first-legal first is-first, tt)) in
-      let c2 = ap (λ (l : List ℕ). getD l 0 0) (characters-of-digits 2 (third ∷ []) (third-legal third is-third, tt)) in
-      rw (c0, c2)
-
-  pub callsignWith-legal : (a : ℕ) → AllLegal 0 (callsignWith first third a)
-  callsignWith-legal a = rw (callsignWith-characters a) (legal-of-digits 0 _ (six-digits-at a))
-
-  -- The number in it is that which was written.
-  pub upperOf-callsignWith : (a : ℕ) → a < 632_736 → upperOf (callsignWith first third a) ≡ a
-  unfolding upperOf digitsOf upperRadices
-  upperOf-callsignWith a h =
-      rw (callsignWith-characters a, digits-of-characters 0 _ (six-digits-at a)) (numberOf-digitsOf upperRadices upper-positive (rw upper-count h))
-
-  -- Every character in it may stand at its place.
-  telemetry-characters : (a : ℕ) → AllPass telemetryAt 0 (callsignWith first third a)
-  unfolding AllPass Digits telemetryAt callsignWith charactersFrom overPlaces characterAt digitsOf setAt callsignSets locatorSets upperRadices
-  telemetry-characters a =
-      let p = digits-in-range upperRadices a upper-positive in (
-        is-first,
-        (
-          refl,
-          (
-            refl,
-            (no-space _ (omega arith) (omega arith), (no-space _ (omega arith) (omega arith), (no-space _ (omega arith) (omega arith), tt))),
-          ),
-        ),
-      )
-
-  pub callsignWith-telemetry : (a : ℕ) → firstNotTelemetry (callsignWith first third a) ≡ 6
-  unfolding firstNotTelemetry
-  callsignWith-telemetry a = omega (arith, none-fails telemetryAt 0 _ (telemetry-characters a), callsignWith-length first third a)
-
--- ---- The channel and the number in a callsign
 
 -- A legal third character is a digit.
 third-of-legal : (byte : ℕ) → legalAt 2 byte ≡ true → isThirdCharacter byte ≡ true
@@ -120,6 +64,68 @@ third-of-legal byte e =
     let small : value byte < 10 = legal-end 2 byte e in
     let same : byte ≡ value byte + 48 = sym (character-value byte (omega arith)) ∙ character-digit small in
     between-true 48 57 byte (omega arith) (omega arith)
+
+-- ---- The callsign with a number
+
+-- The digits at the six places, from those of the number. Places 0 and 2 are the channel's.
+abbrev pub sixDigits : List ℕ → List ℕ
+sixDigits d = 0 ∷ getD d 0 0 ∷ 0 ∷ getD d 1 0 ∷ getD d 2 0 ∷ getD d 3 0 ∷ []
+
+-- They are in their places' sets.
+pub six-digits-at : (a : ℕ) → DigitsAt 0 (sixDigits (digitsOf upperRadices a))
+unfolding Digits DigitsAt digitsOf setAt callsignSets locatorSets upperRadices
+six-digits-at a =
+    let d = digits-in-range upperRadices a upper-positive in
+    (omega arith, (d .0, (omega arith, (omega arith, (omega arith, (omega arith, tt))))))
+
+-- A letter is no space.
+no-space : (v : ℕ) → 10 ≤ v → v < 36 → not (eqb (character v) 32) ≡ true
+no-space v h k = rw (character-letter h k, ne-eqb (v + 55) 32 (λ e. omega arith))
+
+module _ (channel : Channel) (a : ℕ) where
+  pub callsignWith-length : length (callsignWith channel a) ≡ 6
+  unfolding callsignWith
+  callsignWith-length = refl
+
+  -- The callsign is the characters of those digits, but for the channel's.
+  pub callsignWith-characters : callsignWith channel a ≡ set (set (charactersFrom 0 (sixDigits (digitsOf upperRadices a))) 0 (channel .first)) 2 (channel .third)
+  unfolding callsignWith charactersFrom overPlaces
+  callsignWith-characters = refl
+
+  -- The number in it is what was written of the number.
+  pub upperOf-callsignWith : upperOf (callsignWith channel a) ≡ a % count upperRadices
+  unfolding callsignWith upperOf upperDigits charactersFrom digitsFrom overPlaces digitsOf upperRadices
+  upperOf-callsignWith =
+      ap (λ (d : List ℕ). numberOf upperRadices (getD d 1 0 ∷ getD d 3 0 ∷ getD d 4 0 ∷ getD d 5 0 ∷ [])) (digits-of-characters 0 _ (six-digits-at a))
+      ∙ numberOf-digitsOf-part upperRadices a upper-positive
+
+  pub callsignWith-legal : legalAt 0 (channel .first) ≡ true → legalAt 2 (channel .third) ≡ true → AllLegal 0 (callsignWith channel a)
+  unfolding AllPass callsignWith charactersFrom overPlaces
+  callsignWith-legal first third =
+      let characters = legal-of-digits 0 _ (six-digits-at a) in
+      (first, (characters .1 .0, (third, characters .1 .1 .1)))
+
+  module _ (taken : FirstCharacters) (is-first : isFirstCharacter taken (channel .first) ≡ true) where
+    -- Every character in it is taken at its place.
+    all-taken : AllPass (takenAt (lettersAlone taken)) 0 (callsignWith channel a)
+    unfolding AllPass Digits takenAt callsignWith characterAt digitsOf setAt callsignSets locatorSets upperRadices
+    all-taken =
+        let p = digits-in-range upperRadices a upper-positive in (
+          is-first,
+          (
+            refl,
+            (
+              refl,
+              (no-space _ (omega arith) (omega arith), (no-space _ (omega arith) (omega arith), (no-space _ (omega arith) (omega arith), tt))),
+            ),
+          ),
+        )
+
+    pub callsignWith-taken : firstNotTaken (lettersAlone taken) (callsignWith channel a) ≡ 6
+    unfolding firstNotTaken
+    callsignWith-taken = omega (arith, none-fails (takenAt (lettersAlone taken)) 0 _ all-taken, callsignWith-length)
+
+-- ---- The channel and the number in a callsign
 
 -- A legal character that is no space has a value below the space's.
 below-space : (byte : ℕ) → value byte < 37 → not (eqb byte 32) ≡ true → value byte < 36
@@ -133,26 +139,24 @@ module _ (c0 c1 c2 c3 c4 c5 : ℕ) where
   abbrev callsign : List ℕ
   callsign = c0 ∷ c1 ∷ c2 ∷ c3 ∷ c4 ∷ c5 ∷ []
 
-  module _ (legal : AllLegal 0 callsign) (telemetry : AllPass telemetryAt 0 callsign) where
-    four-digits-in : Digits upperRadices (fourDigits (digitsFrom 0 callsign))
-    unfolding AllPass Digits DigitsAt telemetryAt legalAt digitsFrom overPlaces digitAt setAt callsignSets locatorSets upperRadices
-    four-digits-in =
+  module _ (taken : FirstCharacters) (legal : AllLegal 0 callsign) (all-taken : AllPass (takenAt (lettersAlone taken)) 0 callsign) where
+    digits-in : Digits upperRadices (upperDigits callsign)
+    unfolding AllPass Digits DigitsAt takenAt legalAt upperDigits digitsFrom overPlaces digitAt setAt callsignSets locatorSets upperRadices
+    digits-in =
         let d = digits-of-legal 0 callsign legal in
         let v3 = legal-end 3 c3 (legal .1 .1 .1 .0) in
         let v4 = legal-end 4 c4 (legal .1 .1 .1 .1 .0) in
         let v5 = legal-end 5 c5 (legal .1 .1 .1 .1 .1 .0) in
-        let b3 = below-space c3 v3 (telemetry .1 .1 .1 .0) in
-        let b4 = below-space c4 v4 (telemetry .1 .1 .1 .1 .0) in
-        let b5 = below-space c5 v5 (telemetry .1 .1 .1 .1 .1 .0) in
+        let b3 = below-space c3 v3 (all-taken .1 .1 .1 .0) in
+        let b4 = below-space c4 v4 (all-taken .1 .1 .1 .1 .0) in
+        let b5 = below-space c5 v5 (all-taken .1 .1 .1 .1 .1 .0) in
         (d .1 .0, (omega arith, (omega arith, (omega arith, tt))))
 
-    callsign-again : callsignWith c0 c2 (upperOf callsign) ≡ callsign
-    unfolding AllPass telemetryAt upperOf digitsFrom overPlaces
+    callsign-again : callsignWith (record { first = c0; third = c2 }) (upperOf callsign) ≡ callsign
+    unfolding callsignWith upperOf upperDigits charactersFrom digitsFrom overPlaces
     callsign-again =
-        rw (
-          callsignWith-characters c0 c2 (telemetry .0) (third-of-legal c2 (legal .1 .1 .0)) (upperOf callsign),
-          digitsOf-numberOf upperRadices (fourDigits (digitsFrom 0 callsign)) four-digits-in,
-        ) (characters-of-digits 0 callsign legal)
+        rw (digitsOf-numberOf upperRadices (upperDigits callsign) digits-in)
+        (ap (λ (l : List ℕ). c0 ∷ getD l 1 0 ∷ c2 ∷ getD l 3 0 ∷ getD l 4 0 ∷ getD l 5 0 ∷ []) (characters-of-digits 0 callsign legal))
 
 module _ (callsign : List ℕ) (six : length callsign ≡ 6) where
   -- A callsign, character by character.
@@ -161,27 +165,27 @@ module _ (callsign : List ℕ) (six : length callsign ≡ 6) where
   unfolding tabulate
   its-characters = by-places 6 callsign six
 
-  module _ (legal : AllLegal 0 callsign) (telemetry : 6 ≤ firstNotTelemetry callsign) where
-    all-telemetry : AllPass telemetryAt 0 callsign
-    unfolding firstNotTelemetry
-    all-telemetry = all-pass telemetryAt 0 callsign (omega arith)
+  module _ (taken : FirstCharacters) (legal : AllLegal 0 callsign) (none : 6 ≤ firstNotTaken (lettersAlone taken) callsign) where
+    its-taken : AllPass (takenAt (lettersAlone taken)) 0 callsign
+    unfolding firstNotTaken
+    its-taken = all-pass (takenAt (lettersAlone taken)) 0 callsign (omega arith)
 
     -- The channel's characters are in range.
-    pub first-of : isFirstCharacter (getD callsign 0 0) ≡ true
-    unfolding telemetryAt AllPass
-    first-of = subst (AllPass telemetryAt 0) its-characters all-telemetry .0
+    pub first-of : isFirstCharacter taken (getD callsign 0 0) ≡ true
+    unfolding takenAt AllPass
+    first-of = subst (AllPass (takenAt (lettersAlone taken)) 0) its-characters its-taken .0
 
     pub third-of : isThirdCharacter (getD callsign 2 0) ≡ true
     unfolding AllPass
     third-of = third-of-legal _ (subst (AllLegal 0) its-characters legal .1 .1 .0)
 
-    pub upper-digits-in : Digits upperRadices (fourDigits (digitsFrom 0 callsign))
+    pub upper-digits-in : Digits upperRadices (upperDigits callsign)
     upper-digits-in =
-        subst (λ (l : List ℕ). Digits upperRadices (fourDigits (digitsFrom 0 l))) (sym its-characters)
-        (four-digits-in _ _ _ _ _ _ (subst (AllLegal 0) its-characters legal) (subst (AllPass telemetryAt 0) its-characters all-telemetry))
+        subst (λ (l : List ℕ). Digits upperRadices (upperDigits l)) (sym its-characters)
+        (digits-in _ _ _ _ _ _ taken (subst (AllLegal 0) its-characters legal) (subst (AllPass (takenAt (lettersAlone taken)) 0) its-characters its-taken))
 
     -- The channel's characters and the number make the callsign again.
-    pub callsignWith-upperOf : callsignWith (getD callsign 0 0) (getD callsign 2 0) (upperOf callsign) ≡ callsign
+    pub callsignWith-upperOf : callsignWith (record { first = getD callsign 0 0; third = getD callsign 2 0 }) (upperOf callsign) ≡ callsign
     callsignWith-upperOf =
-        subst (λ (l : List ℕ). callsignWith (getD l 0 0) (getD l 2 0) (upperOf l) ≡ l) (sym its-characters)
-        (callsign-again _ _ _ _ _ _ (subst (AllLegal 0) its-characters legal) (subst (AllPass telemetryAt 0) its-characters all-telemetry))
+        subst (λ (l : List ℕ). callsignWith (record { first = getD l 0 0; third = getD l 2 0 }) (upperOf l) ≡ l) (sym its-characters)
+        (callsign-again _ _ _ _ _ _ taken (subst (AllLegal 0) its-characters legal) (subst (AllPass (takenAt (lettersAlone taken)) 0) its-characters its-taken))

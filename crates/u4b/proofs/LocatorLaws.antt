@@ -1,18 +1,19 @@
 -- Laws of the locator and power: the lower number in them and back, both ways, and that what is written is legal.
 use mathlib.Core.Path.{_≡_, refl}
-use Prim.Native.Nat.{ℕ, _<_}
+use Prim.Native.Nat.{ℕ, _%_, _<_}
 use native.Mathlib.Omega.{arith}
 use mathlib.Core.Bool.{true}
 use mathlib.Core.List.{List, [], _∷_}
 use lib.ListN.{length, getD}
 use Rattle.radix.specs.Numeral.{Digits, Positive, count, digitsOf}
-use Rattle.radix.proofs.Laws.{digits-in-range, digitsOf-numberOf, numberOf-digitsOf}
+use Rattle.radix.proofs.Laws.{digits-in-range, digitsOf-numberOf}
 use Rattle.power.specs.Powers.{powerIndex, legalPower}
 use Rattle.power.proofs.Laws.{powerAt-powerIndex, powerIndex-powerAt, legal-index, legal-powerAt}
 use Rattle.message.specs.Character.{setAt, callsignSets, locatorSets, digitsFrom, DigitsAt}
 use Rattle.message.proofs.CharacterLaws.{AllLegal, characters-of-digits, legal-of-digits, digits-of-characters, length-charactersFrom}
 use Rattle.message.proofs.WordLaws.{locator-in-sets}
 use Rattle.u4b.specs.Characters.{lowerRadices, locatorWith, powerWith, lowerOf}
+use Rattle.u4b.proofs.NumberLaws.{numberOf-digitsOf-part}
 
 pub lower-positive : Positive lowerRadices
 unfolding Positive lowerRadices
@@ -55,12 +56,11 @@ pub powerWith-legal : (b : ℕ) → legalPower (powerWith b) ≡ true
 unfolding powerWith
 powerWith-legal b = legal-powerAt _ (index-below b)
 
--- The number in them is that which was written.
-pub lowerOf-locatorWith : (b : ℕ) → b < 615_600 → lowerOf (locatorWith b) (powerWith b) ≡ b
+-- The number in them is what was written of the number.
+pub lowerOf-locatorWith : (b : ℕ) → lowerOf (locatorWith b) (powerWith b) ≡ b % count lowerRadices
 unfolding locatorWith powerWith lowerOf digitsOf lowerRadices
-lowerOf-locatorWith b h =
-    rw (digits-of-characters 6 _ (four-digits-at b), powerIndex-powerAt _ (index-below b))
-    (numberOf-digitsOf lowerRadices lower-positive (rw lower-count h))
+lowerOf-locatorWith b =
+    rw (digits-of-characters 6 _ (four-digits-at b), powerIndex-powerAt _ (index-below b)) (numberOf-digitsOf-part lowerRadices b lower-positive)
 
 -- ---- The number in a locator and power
 

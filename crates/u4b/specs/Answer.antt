@@ -1,35 +1,93 @@
--- What reading the channel and the two numbers of a message answers, for every input: refusals 1, 2, 3, 10.
+-- What writing the channel and the two numbers into a message and reading them answer, for every input, what the lent buffers then hold,
+-- and the result numbers of an answer.
 use Prim.Native.Nat.{ℕ}
-use mathlib.Core.Bool.{cond}
+use mathlib.Core.Bool.{false, cond, not}
 use mathlib.Core.List.{List}
 use lib.Dec.{ltb}
-use lib.ListN.{getD}
-use Rattle.refusal.specs.Refusals.{refusal, notTelemetry}
-use Rattle.message.specs.Answer.{checked}
+use lib.ListN.{length, getD}
+use Rattle.refusal.specs.Refusals.{refusal, wrongLength, notTelemetry, outOfRange}
+use Rattle.message.specs.Answer.{rightLengths, checked, contentAfter}
 use Rattle.message.specs.declared.CheckAnswer.{CheckAnswer}
-use Rattle.u4b.specs.Characters.{upperOf, lowerOf, firstNotTelemetry}
+use Rattle.message.specs.declared.MessageAnswer.{MessageAnswer}
+use Rattle.u4b.specs.Channel.{isFirstCharacter, isThirdCharacter, noChannel}
+use Rattle.u4b.specs.Alphabet.{firstNotTaken}
+use Rattle.u4b.specs.Characters.{callsignWith, upperOf, locatorWith, powerWith, lowerOf}
+use Rattle.u4b.specs.declared.channel.FirstCharacters.{FirstCharacters}
+use Rattle.u4b.specs.declared.alphabet.Alphabet.{Alphabet}
 use Rattle.u4b.specs.declared.Payload.{Payload}
 use Rattle.u4b.specs.declared.PayloadAnswer.{PayloadAnswer}
+
+-- ---- Writing: "telemetry writing 1, 14"
+
+-- The power of the message, or why nothing is written. 14: "0 first character, 1 third"
+unfoldable pub payloadMessage : FirstCharacters → Payload → MessageAnswer
+payloadMessage first payload =
+    cond (not (isFirstCharacter first (payload .channel .first))) (MessageAnswer.Refused (refusal outOfRange 0))
+    (cond (not (isThirdCharacter (payload .channel .third))) (MessageAnswer.Refused (refusal outOfRange 1))
+    (MessageAnswer.Power (powerWith (payload .lower))))
+
+-- The callsign of the message.
+unfoldable pub payloadCallsign : Payload → List ℕ
+payloadCallsign payload = callsignWith (payload .channel) (payload .upper)
+
+-- The locator of the message.
+unfoldable pub payloadLocator : Payload → List ℕ
+payloadLocator payload = locatorWith (payload .lower)
+
+-- The answer, given what the lent callsign and locator hold.
+unfoldable pub payloadWritten : FirstCharacters → List ℕ → List ℕ → Payload → MessageAnswer
+payloadWritten first callsign locator payload =
+    cond (not (rightLengths (length callsign) (length locator))) (MessageAnswer.Refused (refusal wrongLength 0)) (payloadMessage first payload)
+
+-- What the lent callsign then holds.
+unfoldable pub callsignAfterPayload : FirstCharacters → List ℕ → List ℕ → Payload → List ℕ
+callsignAfterPayload first callsign locator payload =
+    contentAfter (payloadWritten first callsign locator payload) callsign (payloadCallsign payload)
+
+-- What the lent locator then holds.
+unfoldable pub locatorAfterPayload : FirstCharacters → List ℕ → List ℕ → Payload → List ℕ
+locatorAfterPayload first callsign locator payload =
+    contentAfter (payloadWritten first callsign locator payload) locator (payloadLocator payload)
+
+-- ---- Reading: "telemetry reading 1, 2, 3, 10"
 
 -- The channel's characters and the two numbers of a message.
 unfoldable pub payloadOf : List ℕ → List ℕ → ℕ → Payload
 payloadOf callsign locator power = record {
-  first = getD callsign 0 0;
-  third = getD callsign 2 0;
+  channel = record { first = getD callsign 0 0; third = getD callsign 2 0 };
   upper = upperOf callsign;
   lower = lowerOf locator power;
 }
 
+-- The numbers stand in letters alone: no space may be among them.
+abbrev pub lettersAlone : FirstCharacters → Alphabet
+lettersAlone first = record { first = first; «last_space» = false }
+
 -- 10: "first character isn't 0, 1, Q, or a space in places 3 to 5"
-unfoldable pub messagePayload : List ℕ → List ℕ → ℕ → PayloadAnswer
-messagePayload callsign locator power =
-    cond (ltb (firstNotTelemetry callsign) 6) (PayloadAnswer.Refused (refusal notTelemetry (firstNotTelemetry callsign)))
-    (PayloadAnswer.Payload (payloadOf callsign locator power))
+unfoldable pub messagePayload : FirstCharacters → List ℕ → List ℕ → ℕ → PayloadAnswer
+messagePayload first callsign locator power =
+    let place = firstNotTaken (lettersAlone first) callsign in
+    cond (ltb place 6) (PayloadAnswer.Refused (refusal notTelemetry place)) (PayloadAnswer.Payload (payloadOf callsign locator power))
 
 -- 1, 2 and 3 are those of any message: the answer where it is legal, else its refusal.
 unfoldable pub ifLegal : CheckAnswer → PayloadAnswer → PayloadAnswer
 ifLegal CheckAnswer.Legal answer = answer
 ifLegal (CheckAnswer.Refused f) answer = PayloadAnswer.Refused f
 
-unfoldable pub payloadRead : List ℕ → List ℕ → ℕ → PayloadAnswer
-payloadRead callsign locator power = ifLegal (checked callsign locator power) (messagePayload callsign locator power)
+unfoldable pub payloadRead : FirstCharacters → List ℕ → List ℕ → ℕ → PayloadAnswer
+payloadRead first callsign locator power = ifLegal (checked callsign locator power) (messagePayload first callsign locator power)
+
+-- ---- The result numbers of an answer: 0 where it has none
+
+-- Refusal number, place, and the payload
+pub record PayloadNumbers : Type 0 where
+  pub number : ℕ
+  pub place : ℕ
+  pub payload : Payload
+
+unfoldable pub noPayload : Payload
+noPayload = record { channel = noChannel; upper = 0; lower = 0 }
+
+unfoldable pub payloadNumbers : PayloadAnswer → PayloadNumbers
+payloadNumbers (PayloadAnswer.Payload p) = record { number = 0; place = 0; payload = p }
+payloadNumbers (PayloadAnswer.Refused f) = record { number = f .number; place = f .place; payload = noPayload }

@@ -1,14 +1,11 @@
 -- Two numbers in the characters and the power of a message, and back (01, 'Telemetry').
 use Prim.Native.Nat.{ℕ}
-use mathlib.Core.Bool.{Bool, cond, not, _||_}
 use mathlib.Core.List.{List, [], _∷_}
-use lib.Dec.{eqb, ltb}
 use lib.ListN.{getD}
-use Rattle.basics.specs.Lists.{firstFailing}
 use Rattle.radix.specs.Numeral.{numberOf, digitsOf}
 use Rattle.power.specs.Powers.{powerIndex, powerAt}
 use Rattle.message.specs.Character.{characterAt, digitsFrom, charactersFrom}
-use Rattle.u4b.specs.Channel.{isFirstCharacter}
+use Rattle.u4b.specs.declared.channel.Channel.{Channel}
 
 -- ---- The upper number (01: A) in the callsign
 
@@ -18,22 +15,25 @@ unfoldable pub upperRadices : List ℕ
 upperRadices = 36 ∷ 26 ∷ 26 ∷ 26 ∷ []
 
 -- The callsign with the channel's first and third characters and the number.
-unfoldable pub callsignWith : ℕ → ℕ → ℕ → List ℕ
-callsignWith first third upper =
+unfoldable pub callsignWith : Channel → ℕ → List ℕ
+callsignWith channel upper =
     let d = digitsOf upperRadices upper in
-    first
+    channel .first
     ∷ characterAt 1 (getD d 0 0)
-    ∷ third
+    ∷ channel .third
     ∷ characterAt 3 (getD d 1 0)
     ∷ characterAt 4 (getD d 2 0)
     ∷ characterAt 5 (getD d 3 0)
     ∷ []
 
--- The number in a callsign.
-unfoldable pub upperOf : List ℕ → ℕ
-upperOf callsign =
+-- The number in a callsign: its digits, and what they write.
+unfoldable pub upperDigits : List ℕ → List ℕ
+upperDigits callsign =
     let d = digitsFrom 0 callsign in
-    numberOf upperRadices (getD d 1 0 ∷ getD d 3 0 ∷ getD d 4 0 ∷ getD d 5 0 ∷ [])
+    getD d 1 0 ∷ getD d 3 0 ∷ getD d 4 0 ∷ getD d 5 0 ∷ []
+
+unfoldable pub upperOf : List ℕ → ℕ
+upperOf callsign = numberOf upperRadices (upperDigits callsign)
 
 -- ---- The lower number (01: B) in the locator and the power
 
@@ -56,13 +56,3 @@ unfoldable pub lowerOf : List ℕ → ℕ → ℕ
 lowerOf locator power =
     let d = digitsFrom 6 locator in
     numberOf lowerRadices (getD d 0 0 ∷ getD d 1 0 ∷ getD d 2 0 ∷ getD d 3 0 ∷ powerIndex power ∷ [])
-
--- ---- The characters of telemetry
-
--- A legal character may stand at its place in telemetry: at place 0 "0, 1, Q", and no "space in places 3 to 5". In ASCII the space is 32.
-unfoldable pub telemetryAt : ℕ → ℕ → Bool
-telemetryAt place byte = cond (eqb place 0) (isFirstCharacter byte) (ltb place 3 || not (eqb byte 32))
-
--- The first place of a callsign whose character may not stand there; past the last where there is none.
-unfoldable pub firstNotTelemetry : List ℕ → ℕ
-firstNotTelemetry callsign = firstFailing telemetryAt 0 callsign

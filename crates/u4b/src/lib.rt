@@ -1,24 +1,28 @@
 // A U4B message: the channel's two characters and two numbers, in a WSPR message and back. The upper
 // number stands in the callsign, the lower one in the locator and the power.
+pub mod alphabet;
 mod callsign;
 pub mod channel;
 mod locator;
 
 ghost use mathlib.Core.Path.{_≡_};
-ghost use mathlib.Core.Bool.{true};
-ghost use lib.ListN.{length};
-ghost use Rattle.u4b.specs.Channel.{isFirstCharacter, isThirdCharacter};
-ghost use Rattle.u4b.specs.Characters.{callsignWith, locatorWith, powerWith};
-ghost use Rattle.u4b.specs.Answer.{payloadRead};
+ghost use Rattle.message.specs.Answer.{messageNumbers};
+ghost use Rattle.u4b.specs.Answer.{payloadWritten, callsignAfterPayload, locatorAfterPayload, payloadRead, payloadNumbers};
+ghost use Rattle.u4b.specs.RoundTrip.{PayloadReadsBack, PayloadWritesBack, PayloadRefusedExactly};
+use alphabet::Alphabet;
+use channel::Channel;
+use channel::FirstCharacters;
 use message::CheckAnswer;
+use message::MessageAnswer;
 use refusal::NOT_TELEMETRY;
+use refusal::OUT_OF_RANGE;
 use refusal::Refusal;
+use refusal::WRONG_LENGTH;
 
-// The channel's first and third character, and the two numbers (01: A and B in basic telemetry): below
-// 632,736 and 615,600 where they are a message's.
+// The channel, and the two numbers (01: A and B in basic telemetry): below 632,736 and 615,600 where
+// they are a message's.
 pub struct Payload {
-    pub first: u8,
-    pub third: u8,
+    pub channel: Channel,
     pub upper: u64,
     pub lower: u64,
 }
@@ -29,30 +33,60 @@ pub enum PayloadAnswer {
     Refused(Refusal),
 }
 
-// Writes the callsign and the locator with the numbers; their power is returned. Of each number only
-// what is below its end is written.
-pub fn write(numbers: Payload, callsign: &mut [u8], locator: &mut [u8]) -> u32
-    requires { ⌜ length (now callsign) ≡ 6 ⌝ }
-    requires { ⌜ length (now locator) ≡ 4 ⌝ }
-    requires { ⌜ isFirstCharacter (numbers .first) ≡ true ⌝ }
-    requires { ⌜ isThirdCharacter (numbers .third) ≡ true ⌝ }
-    ensures power { λ r. ⌜ r ≡ powerWith (numbers .lower) ⌝ }
-    ensures callsign_after { λ _. ⌜ now (callsign .exit) ≡ callsignWith (numbers .first) (numbers .third) (numbers .upper) ⌝ }
-    ensures locator_after { λ _. ⌜ now (locator .exit) ≡ locatorWith (numbers .lower) ⌝ }
+// The message of a payload: its callsign and locator are written, its power is the answer. Of each
+// number only what is below its end is written.
+pub fn write(
+    first: FirstCharacters,
+    payload: Payload,
+    callsign: &mut [u8],
+    locator: &mut [u8],
+) -> MessageAnswer
+    ensures answer { λ r. ⌜ r ≡ payloadWritten first (now (callsign .entry)) (now (locator .entry)) payload ⌝ }
+    ensures numbers { λ r. ⌜ messageNumbers r ≡ messageNumbers (payloadWritten first (now (callsign .entry)) (now (locator .entry)) payload) ⌝ }
+    ensures callsign_after { λ _. ⌜ now (callsign .exit) ≡ callsignAfterPayload first (now (callsign .entry)) (now (locator .entry)) payload ⌝ }
+    ensures locator_after { λ _. ⌜ now (locator .exit) ≡ locatorAfterPayload first (now (callsign .entry)) (now (locator .entry)) payload ⌝ }
+    ensures reads_back { λ r. ⌜ PayloadReadsBack r first payload (now (callsign .exit)) (now (locator .exit)) ⌝ }
 {
-    callsign::write_callsign(numbers.first, numbers.third, numbers.upper, callsign);
-    locator::write_locator(numbers.lower, locator)
+    if !message::right_lengths(callsign.len(), locator.len()) {
+        return MessageAnswer::Refused(Refusal {
+            number: WRONG_LENGTH,
+            place: 0,
+        });
+    }
+    let channel = payload.channel;
+    if !channel::is_first_character(first, channel.first) {
+        return MessageAnswer::Refused(Refusal {
+            number: OUT_OF_RANGE,
+            place: 0,
+        });
+    }
+    if !channel::is_third_character(channel.third) {
+        return MessageAnswer::Refused(Refusal {
+            number: OUT_OF_RANGE,
+            place: 1,
+        });
+    }
+    callsign::write_callsign(channel, payload.upper, callsign);
+    MessageAnswer::Power(locator::write_locator(payload.lower, locator))
 }
 
-// The numbers of a message.
-pub fn read(callsign: &[u8], locator: &[u8], power: u32) -> PayloadAnswer
-    ensures answer { λ r. ⌜ r ≡ payloadRead (now (callsign .entry)) (now (locator .entry)) power ⌝ }
+// The payload of a message.
+pub fn read(first: FirstCharacters, callsign: &[u8], locator: &[u8], power: u32) -> PayloadAnswer
+    ensures answer { λ r. ⌜ r ≡ payloadRead first (now (callsign .entry)) (now (locator .entry)) power ⌝ }
+    ensures numbers { λ r. ⌜ payloadNumbers r ≡ payloadNumbers (payloadRead first (now (callsign .entry)) (now (locator .entry)) power) ⌝ }
+    ensures writes_back { λ r. ⌜ PayloadWritesBack r first (now (callsign .entry)) (now (locator .entry)) power ⌝ }
+    ensures refuses_exactly { λ r. ⌜ PayloadRefusedExactly r first (now (callsign .entry)) (now (locator .entry)) power ⌝ }
 {
     let checked = message::check(callsign, locator, power);
     if let CheckAnswer::Refused(refusal) = checked {
         return PayloadAnswer::Refused(refusal);
     }
-    let place = callsign::first_not_telemetry(callsign);
+    // The numbers stand in letters alone.
+    let alphabet = Alphabet {
+        first,
+        last_space: false,
+    };
+    let place = alphabet::first_not_taken(alphabet, callsign);
     if place < 6 {
         return PayloadAnswer::Refused(Refusal {
             number: NOT_TELEMETRY,
@@ -60,8 +94,10 @@ pub fn read(callsign: &[u8], locator: &[u8], power: u32) -> PayloadAnswer
         });
     }
     PayloadAnswer::Payload(Payload {
-        first: callsign[0],
-        third: callsign[2],
+        channel: Channel {
+            first: callsign[0],
+            third: callsign[2],
+        },
         upper: callsign::upper_of(callsign),
         lower: locator::lower_of(locator, power),
     })

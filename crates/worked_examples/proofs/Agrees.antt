@@ -1,4 +1,4 @@
--- The bench sheet agrees with the definitions: antt computes both columns of its table, in one test of all rows.
+-- The worked examples agree with the definitions: antt computes both columns of the table, in one test of all rows.
 use mathlib.Core.Path.{_≡_, refl}
 use mathlib.Core.Bool.{Bool, true}
 use mathlib.Core.List.{List, [], _∷_}
@@ -13,12 +13,13 @@ use Rattle.message.specs.Character.{value, character, callsignSets, locatorSets
 use Rattle.message.specs.Word.{callsignRadices, callsignNumber, locatorNumberFrom, locatorNumber, lowerNumber}
 use Rattle.message.specs.Answer.{rightLengths, checked, messageNumbers}
 use Rattle.u4b.specs.Channel.{isFirstCharacter}
-use Rattle.u4b.specs.Characters.{upperRadices, callsignWith, upperOf, lowerRadices, locatorWith, powerWith, lowerOf, telemetryAt, firstNotTelemetry}
-use Rattle.u4b.specs.Answer.{payloadOf, messagePayload, ifLegal, payloadRead}
+use Rattle.u4b.specs.Alphabet.{takenAt, firstNotTaken}
+use Rattle.u4b.specs.Characters.{upperRadices, callsignWith, upperDigits, upperOf, lowerRadices, locatorWith, powerWith, lowerOf}
+use Rattle.u4b.specs.Answer.{payloadMessage, payloadCallsign, payloadLocator, payloadOf, messagePayload, ifLegal, payloadRead}
 use Rattle.telemetry.specs.Ranges.{temperatureInRange, inRanges, firstOutOfRange}
 use Rattle.telemetry.specs.Codes.{altitudeCode, temperatureCode, voltageCode, speedCode, millivolts}
-use Rattle.telemetry.specs.Payload.{positionRadices, positionDigits, positionNumber, sensorRadices, sensorDigits, sensorNumber}
-use Rattle.telemetry.specs.Answer.{measuredMessage, measuredCallsign, measuredLocator, payloadTelemetry, telemetryIfPayload, telemetryRead, telemetryNumbers}
+use Rattle.telemetry.specs.Payload.{positionRadices, positionDigits, positionNumber, sensorRadices, sensorDigits, sensorNumber, payloadFrom}
+use Rattle.telemetry.specs.Answer.{measuredMessage, measuredCallsign, measuredLocator, numbersTelemetry, basicTelemetry, telemetryIfPayload, telemetryRead, telemetryNumbers}
 use Rattle.worked_examples.specs.Table.{Row, number, text, refused, measuredAt, writeRefused, readRefused, examples, Agrees}
 
 abbrev same : Row → Bool
@@ -35,9 +36,9 @@ agree (r ∷ rs) e =
 pub examples-agree : Agrees examples
 unfolding sameList firstFailing count numberOf numberFrom digitsOf powers indexIn powerIndex powerAt legalPower value character
     callsignSets locatorSets setAt legalAt digitAt characterAt overPlaces digitsFrom charactersFrom callsignRadices callsignNumber
-    locatorNumberFrom locatorNumber lowerNumber rightLengths checked messageNumbers isFirstCharacter upperRadices callsignWith
-    upperOf lowerRadices locatorWith powerWith lowerOf telemetryAt firstNotTelemetry payloadOf messagePayload ifLegal payloadRead
-    temperatureInRange inRanges firstOutOfRange altitudeCode temperatureCode voltageCode speedCode millivolts positionRadices positionDigits
-    positionNumber sensorRadices sensorDigits sensorNumber measuredMessage measuredCallsign measuredLocator payloadTelemetry telemetryIfPayload telemetryRead
-    telemetryNumbers bytes number text refused measuredAt writeRefused readRefused examples
+    locatorNumberFrom locatorNumber lowerNumber rightLengths checked messageNumbers isFirstCharacter takenAt firstNotTaken upperRadices
+    callsignWith upperDigits upperOf lowerRadices locatorWith powerWith lowerOf payloadMessage payloadCallsign payloadLocator payloadOf
+    messagePayload ifLegal payloadRead temperatureInRange inRanges firstOutOfRange altitudeCode temperatureCode voltageCode speedCode
+    millivolts positionRadices positionDigits positionNumber sensorRadices sensorDigits sensorNumber payloadFrom measuredMessage
+    measuredCallsign measuredLocator numbersTelemetry basicTelemetry telemetryIfPayload telemetryRead telemetryNumbers bytes number text refused measuredAt writeRefused readRefused examples
 examples-agree = agree examples refl

@@ -1,2 +1,2 @@
--- `Agrees`: the bench sheet agrees with the definitions.
+-- `Agrees`: the worked examples agree with the definitions.
 pub mod Agrees

@@ -1,4 +1,4 @@
--- The worked examples of 01's bench sheet that are marked P, as a table: what the definitions give, and what the sheet says.
+-- The worked examples (01, 'Bench sheet') that are marked P, as a table: what the definitions give, and what 01 says.
 use Prim.Native.Nat.{ℕ}
 use Prim.Native.String.{String}
 use mathlib.Core.Path.{_≡_}
@@ -8,12 +8,12 @@ use Rattle.basics.specs.Ascii.{bytes}
 use Rattle.message.specs.Word.{callsignNumber, locatorNumber, lowerNumber}
 use Rattle.message.specs.Answer.{messageNumbers}
 use Rattle.telemetry.specs.Codes.{altitudeCode, voltageCode, millivolts}
-use Rattle.telemetry.specs.Payload.{positionNumber, sensorNumber}
+use Rattle.telemetry.specs.Payload.{positionNumber, basicBit, sensorNumber}
 use Rattle.u4b.specs.Characters.{callsignWith, locatorWith, powerWith, lowerOf}
 use Rattle.telemetry.specs.Answer.{measuredMessage, measuredCallsign, measuredLocator, telemetryRead, telemetryNumbers}
 use Rattle.telemetry.specs.declared.Measured.{Measured}
 
--- A row: the numbers that the definitions give, and those that the sheet states.
+-- A row: the numbers that the definitions give, and those that 01 states.
 pub record Row : Type 0 where
   pub given : List ℕ
   pub stated : List ℕ
@@ -33,15 +33,9 @@ refused n place statedNumber statedPlace = record { given = n ∷ place ∷ []; 
 -- "channel Q2, SK, 12,340 m, -150, 4,100 mV, 300 tenths, GPS 1", at any altitude
 unfoldable pub measuredAt : ℕ → Measured
 measuredAt altitude = record {
-  first = 81;
-  third = 50;
-  grid5 = 83;
-  grid6 = 75;
-  altitude = altitude;
-  temperature = negℤ (pos 150);
-  voltage = 4_100;
-  speed = 300;
-  gps = 1;
+  channel = record { first = 81; third = 50 };
+  square = record { grid5 = 83; grid6 = 75 };
+  sensors = record { altitude = altitude; temperature = negℤ (pos 150); voltage = 4_100; speed = 300; gps = 1 };
 }
 
 -- A row of a refusal of what is measured.
@@ -68,12 +62,12 @@ examples =
     ∷ number (locatorNumber (bytes "AA00")) 32_220
     -- 'channel Q2, SK, 12,340 m, -150, 4,100 mV, 300 tenths, GPS 1 gives A 472,673, B 235,599, QQ2XFT GP99 60.'
     ∷ number (positionNumber (measuredAt 12_340)) 472_673
-    ∷ number (sensorNumber (measuredAt 12_340)) 235_599
+    ∷ number (sensorNumber basicBit (measuredAt 12_340 .sensors)) 235_599
     ∷ text (measuredCallsign (measuredAt 12_340)) "QQ2XFT"
     ∷ text (measuredLocator (measuredAt 12_340)) "GP99"
     ∷ number (messageNumbers (measuredMessage (measuredAt 12_340)) .power) 60
     -- 'A 615,167 with channel 0, 0 is 0Z0AAH. 0Z0AAI is refused 12.' In ASCII, 0 is 48. RM31 33 has an odd B in its range.
-    ∷ text (callsignWith 48 48 615_167) "0Z0AAH"
+    ∷ text (callsignWith (record { first = 48; third = 48 }) 615_167) "0Z0AAH"
     ∷ readRefused "0Z0AAI" "RM31" 33 12 0
     -- 'B 604,799 is RM31 33. RM31 37 is even: 11. RM31 40 is 604,801: 13.'
     ∷ text (locatorWith 604_799) "RM31"
@@ -90,7 +84,7 @@ examples =
     ∷ writeRefused (measuredAt 21_360) 14 4
     ∷ []
 
--- The statement: row by row, the definitions give what the sheet states.
+-- The statement: row by row, the definitions give what 01 states.
 unfoldable pub Agrees : List Row → Type 0
 Agrees [] = Unit
 Agrees (r ∷ rs) = (r .given ≡ r .stated) × Agrees rs

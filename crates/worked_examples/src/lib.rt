@@ -1,2 +1,1 @@
-// The worked examples of the bench sheet: one table (specs/Table.antt) under one statement
-// (proofs/Agrees.antt). No code.
+// The worked examples: one table (specs/Table.antt) under one statement (proofs/Agrees.antt). No code.

@@ -35,21 +35,7 @@ unfoldable pub repairedResult : RepairNumbers → WsprRepaired
 repairedResult numbers = record { refusal = numbers .number; place = numbers .place; nearest = numbers .nearest }
 
 unfoldable pub readingResult : TelemetryNumbers → U4bReading
-readingResult numbers =
-    let r = numbers .reading in
-    record {
-      refusal = numbers .number;
-      place = numbers .place;
-      first = r .first;
-      third = r .third;
-      grid5 = r .grid5;
-      grid6 = r .grid6;
-      altitude = r .altitude;
-      temperature = r .temperature;
-      voltage = r .voltage;
-      speed = r .speed;
-      gps = r .gps;
-    }
+readingResult numbers = record { refusal = numbers .number; place = numbers .place; reading = numbers .reading }
 
 -- ---- The layers' answers in the structs, of which the exports promise what the layers promise
 
@@ -70,33 +56,14 @@ abbrev pub repairAnswerIn : WsprRepaired → RepairAnswer
 repairAnswerIn r = answerIn (r .refusal) (r .place) (RepairAnswer.Word (r .nearest)) RepairAnswer.Refused
 
 abbrev pub telemetryAnswerIn : U4bReading → TelemetryAnswer
-telemetryAnswerIn r =
-    answerIn (r .refusal) (r .place)
-    (TelemetryAnswer.Telemetry (record {
-      first = r .first;
-      third = r .third;
-      grid5 = r .grid5;
-      grid6 = r .grid6;
-      altitude = r .altitude;
-      temperature = r .temperature;
-      voltage = r .voltage;
-      speed = r .speed;
-      gps = r .gps;
-    }))
-    TelemetryAnswer.Refused
+telemetryAnswerIn r = answerIn (r .refusal) (r .place) (TelemetryAnswer.Telemetry (r .reading)) TelemetryAnswer.Refused
 
 -- ---- The arguments of telemetry as the layer's record
 
 -- What is measured, from the arguments in their order.
 abbrev pub measuredFrom : ℕ → ℕ → ℕ → ℕ → ℕ → ℤ → ℕ → ℕ → ℕ → Measured
 measuredFrom first third grid5 grid6 altitude temperature voltage speed gps = record {
-  first = first;
-  third = third;
-  grid5 = grid5;
-  grid6 = grid6;
-  altitude = altitude;
-  temperature = temperature;
-  voltage = voltage;
-  speed = speed;
-  gps = gps;
+  channel = record { first = first; third = third };
+  square = record { grid5 = grid5; grid6 = grid6 };
+  sensors = record { altitude = altitude; temperature = temperature; voltage = voltage; speed = speed; gps = gps };
 }

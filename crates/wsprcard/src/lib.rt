@@ -16,7 +16,31 @@ use message::WordAnswer;
 use repair::Nearest;
 use repair::RepairAnswer;
 use telemetry::Measured;
+use telemetry::Reading;
+use telemetry::Sensors;
 use telemetry::TelemetryAnswer;
+use u4b::channel::Channel;
+use u4b::channel::SubSquare;
+
+// What stands in the result of a refusal.
+const NO_NEAREST: Nearest = Nearest {
+    word: 0,
+    disagreements: 0,
+    live: 0,
+    sync_wrong: 0,
+};
+
+const NO_READING: Reading = Reading {
+    channel: Channel { first: 0, third: 0 },
+    square: SubSquare { grid5: 0, grid6: 0 },
+    sensors: Sensors {
+        altitude: 0,
+        temperature: 0,
+        voltage: 0,
+        speed: 0,
+        gps: 0,
+    },
+};
 
 // Refusal number (0: success) and place.
 #[repr(C)]
@@ -51,20 +75,13 @@ pub struct WsprRepaired {
     pub nearest: Nearest,
 }
 
-// Refusal number (0: success), place, and the readings of a telemetry message.
+// Refusal number (0: success), place, and the readings of a telemetry message: to C, as above, the
+// struct's own fields.
 #[repr(C)]
 pub struct U4bReading {
     pub refusal: u32,
     pub place: u32,
-    pub first: u8,
-    pub third: u8,
-    pub grid5: u8,
-    pub grid6: u8,
-    pub altitude: u32,
-    pub temperature: i32,
-    pub voltage: u32,
-    pub speed: u32,
-    pub gps: u32,
+    pub reading: Reading,
 }
 
 // The result of writing a frame.
@@ -132,12 +149,7 @@ fn repaired_result(answer: RepairAnswer) -> WsprRepaired
         RepairAnswer::Refused(refusal) => WsprRepaired {
             refusal: refusal.number,
             place: refusal.place,
-            nearest: Nearest {
-                word: 0,
-                disagreements: 0,
-                live: 0,
-                sync_wrong: 0,
-            },
+            nearest: NO_NEAREST,
         },
     }
 }
@@ -150,28 +162,12 @@ fn reading_result(answer: TelemetryAnswer) -> U4bReading
         TelemetryAnswer::Telemetry(reading) => U4bReading {
             refusal: 0,
             place: 0,
-            first: reading.first,
-            third: reading.third,
-            grid5: reading.grid5,
-            grid6: reading.grid6,
-            altitude: reading.altitude,
-            temperature: reading.temperature,
-            voltage: reading.voltage,
-            speed: reading.speed,
-            gps: reading.gps,
+            reading,
         },
         TelemetryAnswer::Refused(refusal) => U4bReading {
             refusal: refusal.number,
             place: refusal.place,
-            first: 0,
-            third: 0,
-            grid5: 0,
-            grid6: 0,
-            altitude: 0,
-            temperature: 0,
-            voltage: 0,
-            speed: 0,
-            gps: 0,
+            reading: NO_READING,
         },
     }
 }
@@ -281,15 +277,15 @@ pub extern "C" fn u4b_write(
     ensures reads_back { λ r. ⌜ TelemetryReadsBack (messageAnswerIn r) (measuredFrom first third grid5 grid6 altitude temperature voltage speed gps) (now (callsign .exit)) (now (locator .exit)) ⌝ }
 {
     let measured = Measured {
-        first,
-        third,
-        grid5,
-        grid6,
-        altitude,
-        temperature,
-        voltage,
-        speed,
-        gps,
+        channel: Channel { first, third },
+        square: SubSquare { grid5, grid6 },
+        sensors: Sensors {
+            altitude,
+            temperature,
+            voltage,
+            speed,
+            gps,
+        },
     };
     message_result(telemetry::write(measured, callsign, locator))
 }

@@ -1,4 +1,5 @@
--- `u4b::read` meets its contract: what isn't legal is refused as it was; of what is, each step is the definition's.
+-- `u4b::read` meets its contract: what isn't legal is refused as it was; of what is, each step is the definition's, and the rest follows
+-- from the definitions' laws.
 -- Assumes nothing.
 use mathlib.Core.Path.{_≡_, sym, _∙_}
 use native.Mathlib.Omega.{arith}
@@ -9,7 +10,9 @@ use Rattle.message.specs.Answer.{checked}
 use Rattle.message.specs.declared.CheckAnswer.{CheckAnswer}
 use Rattle.message.proofs.AnswerLaws.{Legal, legal-of-checked}
 use Rattle.u4b.specs.Answer.{payloadOf}
-use Rattle.u4b.proofs.AnswerLaws.{carried-refused, carried-not-telemetry, carried-numbers}
+use Rattle.u4b.proofs.CallsignLaws.{upper-digits-in}
+use Rattle.u4b.proofs.AnswerLaws.{read-illegal, read-not-taken, read-payload}
+use Rattle.u4b.proofs.RoundTripLaws.{read-promised}
 use Rattle.u4b.proofs.read.Statement.{statement}
 use Rattle.u4b.proofs.read.Tie as tie
 
@@ -34,38 +37,42 @@ returns : tie.Need-returns
 returns c =
     let p = c .before .before .before in
     let a = p .before .before .before .args in
-    sym (carried-refused (a .callsign .now) (a .locator .now) (a .power) _ (sym (p .check .ensures .0) ∙ c .before .checked .given .1))
+    read-promised (a .first) (a .callsign .now) (a .locator .now) (a .power) _
+    (read-illegal (a .first) (a .callsign .now) (a .locator .now) (a .power) _ (sym (p .check .ensures .0) ∙ c .before .checked .given .1))
 
 enum-told : tie.Need-enum-told
 enum-told c = search needs
 
-first-not-telemetry-requires : tie.Need-first-not-telemetry-requires
-first-not-telemetry-requires c κs = search needs
+first-not-taken-requires : tie.Need-first-not-taken-requires
+first-not-taken-requires c κs = search needs
 
-cast-t8 : tie.Need-cast-t8
-cast-t8 c = search needs
+cast-t10 : tie.Need-cast-t10
+cast-t10 c = search needs
 
 returns-2 : tie.Need-returns-2
 returns-2 c =
     let k = c .before .before in
     let a = k .before .before .before .before .before .args in
-    sym (carried-not-telemetry (a .callsign .now) (a .locator .now) (a .power) (is-checked k) _ (sym (c .before .first-not-telemetry .ensures)) (c .if1 .taken))
-
-shared-slice-read-t11 : tie.Need-shared-slice-read-t11
-shared-slice-read-t11 c =
-    let l = its-legal (c .before .before .before) in
-    omega (arith, l .six)
+    read-promised (a .first) (a .callsign .now) (a .locator .now) (a .power) _
+    (read-not-taken (a .first) (a .callsign .now) (a .locator .now) (a .power) (is-checked k) _ (sym (c .before .first-not-taken .ensures)) (c .if1 .taken))
 
 shared-slice-read-t13 : tie.Need-shared-slice-read-t13
 shared-slice-read-t13 c =
+    let l = its-legal (c .before .before .before) in
+    omega (arith, l .six)
+
+shared-slice-read-t15 : tie.Need-shared-slice-read-t15
+shared-slice-read-t15 c =
     let l = its-legal (c .before .before .before .before) in
     omega (arith, l .six)
 
 upper-of-requires : tie.Need-upper-of-requires
 upper-of-requires c κs =
     let e = c .before .before in
-    let l = its-legal (e .before .before) in
-    (l .six, (omega (arith, l .six, none-fails legalAt 0 _ (l .callsign-legal)), omega (arith, e .before .first-not-telemetry .ensures)))
+    let k = e .before .before in
+    let a = k .before .before .before .before .before .args in
+    let l = its-legal k in
+    (l .six, upper-digits-in (a .callsign .now) (l .six) (a .first) (l .callsign-legal) (omega (arith, e .before .first-not-taken .ensures)))
 
 lower-of-requires : tie.Need-lower-of-requires
 lower-of-requires c κs =
@@ -80,7 +87,8 @@ returns-3 c =
     let k = e .before .before in
     let a = k .before .before .before .before .before .args in
     rw (u .upper-of .ensures, c .lower-of .ensures)
-    (sym (carried-numbers (a .callsign .now) (a .locator .now) (a .power) (is-checked k) (omega (arith, e .before .first-not-telemetry .ensures))))
+    (read-promised (a .first) (a .callsign .now) (a .locator .now) (a .power) _
+    (read-payload (a .first) (a .callsign .now) (a .locator .now) (a .power) (is-checked k) (omega (arith, e .before .first-not-taken .ensures))))
 
 pub read-spec : {M : Type 1} → statement M
 read-spec =
@@ -90,11 +98,11 @@ read-spec =
     enum-known-checked
     returns
     enum-told
-    first-not-telemetry-requires
-    cast-t8
+    first-not-taken-requires
+    cast-t10
     returns-2
-    shared-slice-read-t11
     shared-slice-read-t13
+    shared-slice-read-t15
     upper-of-requires
     lower-of-requires
     returns-3)

@@ -1,8 +1,6 @@
--- `wsprcard::reading_result` meets its contract, case by case. A signed field is read back from its bits as it was.
+-- `wsprcard::reading_result` meets its contract, case by case.
 -- Assumes nothing.
 use mathlib.Core.Path.{sym, ap}
-use mir.Facts.{toZ-ofZ}
-use mir.Syntax.{w32}
 use Rattle.telemetry.specs.Answer.{noReading, telemetryNumbers}
 use Rattle.telemetry.specs.declared.TelemetryAnswer.{TelemetryAnswer}
 use Rattle.wsprcard.specs.Results.{readingResult}
@@ -18,10 +16,7 @@ enum-known-answer-2 c = search needs
 
 returns : tie.Need-returns
 unfolding readingResult telemetryNumbers
-returns c =
-    let n = c .before .before .answer .given in
-    rw (toZ-ofZ {w = w32} {z = n .0 .0 .temperature} (record { sfits = c .struct-told .given .1 .1 .1 .1 .1 .0 .1 }))
-    (sym (ap (λ (a : TelemetryAnswer). readingResult (telemetryNumbers a)) (n .1)))
+returns c = sym (ap (λ (a : TelemetryAnswer). readingResult (telemetryNumbers a)) (c .before .answer .given .1))
 
 returns-2 : tie.Need-returns-2
 unfolding readingResult telemetryNumbers noReading

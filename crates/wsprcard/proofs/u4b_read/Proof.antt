@@ -1,6 +1,6 @@
 -- `wsprcard::u4b_read` meets its contract: the layer's answer, in its struct.
 -- Assumes nothing.
-use Rattle.telemetry.proofs.AnswerLaws.{decoded-answered}
+use Rattle.telemetry.proofs.AnswerLaws.{read-answered}
 use Rattle.wsprcard.proofs.ResultLaws.{telemetry-in-result, told}
 use borrow.Author.Needs.{needs}
 use Rattle.wsprcard.proofs.u4b_read.Statement.{statement}
@@ -16,9 +16,9 @@ returns : tie.Need-returns
 returns c =
     let m = c .before in
     let a = m .before .before .before .args in
-    let answered = decoded-answered (a .callsign .now) (a .locator .now) (a .power) in
+    let answered = read-answered (a .callsign .now) (a .locator .now) (a .power) in
     let (result, same) = told (telemetry-in-result _ answered) (c .reading-result .ensures) (m .read .ensures .0) in
-    (result, rw same at (m .read .ensures .1))
+    (result, rw same at (m .read .ensures .1 .1))
 
 pub u4b-read-spec : {M : Type 1} → statement M
 u4b-read-spec = tie.close (tie.spec read-requires reading-result-requires returns)

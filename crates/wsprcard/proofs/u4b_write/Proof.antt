@@ -26,7 +26,7 @@ returns c =
     let promised = rw (toZ-ofZ (s .fits .temperature)) at (w .write .ensures) in
     let answered = written-answered (s .args .callsign .now) (s .args .locator .now) _ in
     let (result, same) = told (message-in-result _ answered) (c .message-result .ensures) (promised .0) in
-    (result, rw same at (promised .1))
+    (result, rw same at (promised .1 .1))
 
 pub u4b-write-spec : {M : Type 1} → statement M
 u4b-write-spec = tie.close (tie.spec write-requires message-result-requires same-length same-length-2 returns)

@@ -4,37 +4,37 @@ use mathlib.Core.Path.{ap, _∙_, _≡_}
 use mir.Facts.{toZ-ofZ}
 use mir.Syntax.{w32}
 use mir.Val.{toZ, ofZ}
-use Rattle.telemetry.specs.Codes.{temperatureCode, speedCode}
-use Rattle.telemetry.proofs.RangeLaws.{InRange, in-range}
 use native.Mathlib.Omega.{arith}
 use borrow.Author.Needs.{needs}
+use Rattle.telemetry.specs.Codes.{temperatureCode, speedCode}
 use Rattle.telemetry.specs.Payload.{sensorRadices, sensorDigits, sensorNumber}
+use Rattle.telemetry.proofs.RangeLaws.{InRange, in-range}
 use Rattle.telemetry.proofs.NumberLaws.{sensor-digits, sensor-count}
 use Rattle.telemetry.proofs.codes.sensor_number.Statement.{statement}
 use Rattle.telemetry.proofs.codes.sensor_number.Tie as tie
 
--- The temperature is read from the struct as the number that it holds.
-as-held : (c : tie.After-struct-told) → let t = c .before .args .m .temperature in toZ w32 (ofZ w32 t) ≡ t
-as-held c = toZ-ofZ {w = w32} {z = c .before .args .m .temperature} (record { sfits = c .struct-told .given .1 .1 .1 .1 .1 .0 .1 })
+its-range : (c : tie.Start) → InRange (c .pre .1 .0) (c .args .m)
+its-range c = in-range (c .pre .1 .0) (c .args .m) (omega (arith, c .pre .1 .1))
 
-its-range : (c : tie.After-struct-told) → InRange (c .before .args .m)
-its-range c = in-range (c .before .args .m) (omega (arith, c .before .pre))
+-- The temperature is read from the struct as the number that it holds.
+as-held : (c : tie.After-struct-told) → let t = c .before .before .args .m .sensors .temperature in toZ w32 (ofZ w32 t) ≡ t
+as-held c = toZ-ofZ {w = w32} {z = c .before .before .args .m .sensors .temperature} (record { sfits = c .struct-told .given .1 .0 .1 })
 
 -- The temperature's code.
-its-temperature : (c : tie.After-temperature-code) → c .temperature-code .result ≡ temperatureCode (c .before .before .args .m .temperature)
+its-temperature : (c : tie.After-temperature-code) → c .temperature-code .result ≡ temperatureCode (c .before .before .before .args .m .sensors .temperature)
 its-temperature c = c .temperature-code .ensures ∙ ap temperatureCode (as-held (c .before))
 
 temperature-code-requires : tie.Need-temperature-code-requires
-temperature-code-requires c κs = rw (as-held c) (its-range c .temperature)
+temperature-code-requires c κs = rw (as-held c) (its-range (c .before .before) .temperature)
 
 voltage-code-requires : tie.Need-voltage-code-requires
-voltage-code-requires c κs = its-range (c .before) .voltage .0
+voltage-code-requires c κs = its-range (c .before .before .before) .voltage .0
 
-cast-t7 : tie.Need-cast-t7
-cast-t7 c = search needs
+cast-speed : tie.Need-cast-speed
+cast-speed c = search needs
 
-cast-t8 : tie.Need-cast-t8
-cast-t8 c = search needs
+cast-t10 : tie.Need-cast-t10
+cast-t10 c = search needs
 
 slice-aggregate-pack : tie.Need-slice-aggregate-pack
 slice-aggregate-pack c = search needs
@@ -47,7 +47,8 @@ unfolding sensorRadices sensorDigits speedCode
 pack-requires c κs =
     let v = c .before .before .before .before in
     let t = v .before in
-    (rw (its-temperature t, v .voltage-code .ensures) (sensor-digits _ (its-range (t .before))), omega (arith, sensor-count))
+    let a = t .before .before .before in
+    (rw (its-temperature t, v .voltage-code .ensures) (sensor-digits _ (its-range a) (a .args .lowest) (a .pre .0)), omega (arith, sensor-count))
 
 returns : tie.Need-returns
 unfolding sensorRadices sensorDigits sensorNumber speedCode
@@ -61,8 +62,8 @@ sensor-number-spec =
     (tie.spec
     temperature-code-requires
     voltage-code-requires
-    cast-t7
-    cast-t8
+    cast-speed
+    cast-t10
     slice-aggregate-pack
     slice-aggregate-pack-2
     pack-requires

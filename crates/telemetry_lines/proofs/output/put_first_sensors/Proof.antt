@@ -14,8 +14,8 @@ use Rattle.telemetry_lines.proofs.output.put_first_sensors.Tie as tie
 
 -- The temperature fits, so that what is put is its text.
 same : (c : tie.After-put-signed-field)
-    → let z = c .before .before .before .before .args .reading .temperature in toZ w32 (ofZ w32 z) ≡ z
-same c = toZ-ofZ (record { sfits = c .before .struct-told .given .1 .1 .1 .1 .1 .0 .1 })
+    → let z = c .before .before .before .before .args .sensors .temperature in toZ w32 (ofZ w32 z) ≡ z
+same c = toZ-ofZ (record { sfits = c .before .struct-told .given .1 .0 .1 })
 
 put-signed-field-requires : tie.Need-put-signed-field-requires
 put-signed-field-requires c κs = search needs
@@ -23,7 +23,7 @@ put-signed-field-requires c κs = search needs
 put-field-requires : tie.Need-put-field-requires
 put-field-requires c κs =
     let p = c .before .before .before in
-    let text = length-integer (toZ w32 (ofZ w32 (p .before .before .before .before .args .reading .temperature))) in
+    let text = length-integer (toZ w32 (ofZ w32 (p .before .before .before .before .args .sensors .temperature))) in
     omega (arith, p .put-signed-field .ensures .ends, put-length (p .put-signed-field .ensures))
 
 same-length : tie.Need-same-length

@@ -14,22 +14,22 @@ put-field-requires c κs = search needs
 put-field-requires-2 : tie.Need-put-field-requires-2
 put-field-requires-2 c κs =
     let p = c .before .before .before in
-    let text = length-decimal (p .before .before .before .args .reading .speed) in
+    let text = length-decimal (p .before .before .before .args .sensors .speed) in
     omega (arith, p .put-field .ensures .ends, put-length (p .put-field .ensures))
 
 put-byte-requires : tie.Need-put-byte-requires
 put-byte-requires c κs =
     let gps = c .before .before .before in
     let speed = gps .before .before .before .before in
-    let r = speed .before .before .before .args .reading in
+    let s = speed .before .before .before .args .sensors in
     omega (
       arith,
       speed .put-field .ensures .ends,
       put-length (speed .put-field .ensures),
       gps .put-field2 .ensures .ends,
       put-length (gps .put-field2 .ensures),
-      length-decimal (r .speed),
-      length-decimal (r .gps),
+      length-decimal (s .speed),
+      length-decimal (s .gps),
     )
 
 same-length : tie.Need-same-length

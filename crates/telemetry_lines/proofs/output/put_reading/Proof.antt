@@ -13,13 +13,13 @@ put-position-requires c κs = search needs
 put-first-sensors-requires : tie.Need-put-first-sensors-requires
 put-first-sensors-requires c κs =
     let p = c .before .before .before in
-    omega (arith, p .put-position .ensures .ends, put-length (p .put-position .ensures), length-position (p .before .before .before .args .reading))
+    omega (arith, p .put-position .ensures .ends, put-length (p .put-position .ensures), length-position (p .before .before .before .before .args .reading))
 
 put-last-sensors-requires : tie.Need-put-last-sensors-requires
 put-last-sensors-requires c κs =
     let q = c .before .before .before in
     let p = q .before .before .before .before in
-    let r = p .before .before .before .args .reading in
+    let r = p .before .before .before .before .args .reading in
     omega (
       arith,
       p .put-position .ensures .ends,
@@ -27,7 +27,7 @@ put-last-sensors-requires c κs =
       q .put-first-sensors .ensures .ends,
       put-length (q .put-first-sensors .ensures),
       length-position r,
-      length-first-sensors r,
+      length-first-sensors (r .sensors),
     )
 
 same-length : tie.Need-same-length

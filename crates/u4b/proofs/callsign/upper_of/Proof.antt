@@ -1,16 +1,15 @@
 -- `u4b::callsign::upper_of` meets its contract: the digits of places 1, 3, 4, 5 are below their radices, and `radix::pack` makes their
 -- number.
 -- Assumes nothing.
-use mathlib.Core.Path.{ap, _∙_}
+use mathlib.Core.Path.{_≡_, ap, _∙_}
 use Prim.Native.Nat.{ℕ}
 use native.Mathlib.Omega.{arith}
-use mathlib.Core.List.{List}
+use mathlib.Core.List.{List, [], _∷_}
+use lib.ListN.{getD}
 use borrow.Author.Needs.{needs}
-use Rattle.basics.proofs.ListLaws.{all-pass}
-use Rattle.message.specs.Character.{legalAt}
 use Rattle.radix.specs.Numeral.{numberOf}
-use Rattle.u4b.specs.Characters.{upperRadices, upperOf}
-use Rattle.u4b.proofs.CallsignLaws.{fourDigits, upper-count, upper-digits-in}
+use Rattle.u4b.specs.Characters.{upperRadices, upperDigits, upperOf}
+use Rattle.u4b.proofs.CallsignLaws.{upper-count}
 use Rattle.u4b.proofs.callsign.upper_of.Statement.{statement}
 use Rattle.u4b.proofs.callsign.upper_of.Tie as tie
 
@@ -39,17 +38,17 @@ slice-aggregate-pack-2 : tie.Need-slice-aggregate-pack-2
 slice-aggregate-pack-2 c = search needs
 
 pack-requires : tie.Need-pack-requires
-unfolding upperRadices
+unfolding upperRadices upperDigits
 pack-requires c κs =
     let r = c .before .before .before in
     let a = r .before .before .before in
-    (rw (r .read-digits .ensures) (upper-digits-in (a .args .callsign .now) (a .pre .0) (all-pass legalAt 0 _ (omega arith)) (a .pre .1 .1)), omega (arith, upper-count))
+    (rw (r .read-digits .ensures) (a .pre .1), omega (arith, upper-count))
 
 returns : tie.Need-returns
-unfolding upperRadices upperOf
+unfolding upperRadices upperDigits upperOf
 returns c =
     let r = c .before .before .before .before in
-    c .pack .ensures ∙ ap (λ (d : List ℕ). numberOf upperRadices (fourDigits d)) (r .read-digits .ensures)
+    c .pack .ensures ∙ rw (r .read-digits .ensures)
 
 pub upper-of-spec : {M : Type 1} → statement M
 upper-of-spec =

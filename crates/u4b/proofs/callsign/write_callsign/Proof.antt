@@ -1,15 +1,13 @@
--- `u4b::callsign::write_callsign` meets its contract: `radix::unpack` gives the number's digits; with those of the channel's
--- characters they are in their places' sets, and `write_characters` writes their characters.
+-- `u4b::callsign::write_callsign` meets its contract: `radix::unpack` gives the number's digits, which are in their places' sets;
+-- `write_characters` writes their characters, and the channel's are set after it.
 -- Assumes nothing.
-use mathlib.Core.Path.{_≡_, refl, sym, ap, _∙_}
-use Prim.Native.Nat.{ℕ}
+use mathlib.Core.Path.{_≡_, refl, sym}
 use native.Mathlib.Omega.{arith}
-use mathlib.Core.List.{List}
+use lib.ListN.{length-set}
 use borrow.Author.Needs.{needs}
 use Rattle.radix.specs.Numeral.{digitsOf}
-use Rattle.message.specs.Character.{charactersFrom}
 use Rattle.u4b.specs.Characters.{upperRadices}
-use Rattle.u4b.proofs.CallsignLaws.{sixDigits, upper-positive, six-digits-at, callsignWith-characters}
+use Rattle.u4b.proofs.CallsignLaws.{upper-positive, six-digits-at, callsignWith-characters}
 use Rattle.u4b.proofs.callsign.write_callsign.Statement.{statement}
 use Rattle.u4b.proofs.callsign.write_callsign.Tie as tie
 
@@ -27,35 +25,32 @@ unpack-requires : tie.Need-unpack-requires
 unfolding upperRadices
 unpack-requires c κs = (upper-positive, refl)
 
-digit-at-requires : tie.Need-digit-at-requires
-digit-at-requires c κs = search needs
+array-read-t6 : tie.Need-array-read-t6
+array-read-t6 c = search needs
 
-array-read-t15 : tie.Need-array-read-t15
-array-read-t15 c = search needs
+array-read-t17 : tie.Need-array-read-t17
+array-read-t17 c = search needs
 
-digit-at-requires-2 : tie.Need-digit-at-requires-2
-digit-at-requires-2 c κs = search needs
+array-read-t20 : tie.Need-array-read-t20
+array-read-t20 c = search needs
 
-array-read-t19 : tie.Need-array-read-t19
-array-read-t19 c = search needs
-
-array-read-t22 : tie.Need-array-read-t22
-array-read-t22 c = search needs
-
-array-read-t25 : tie.Need-array-read-t25
-array-read-t25 c = search needs
+array-read-t23 : tie.Need-array-read-t23
+array-read-t23 c = search needs
 
 slice-aggregate-write-characters : tie.Need-slice-aggregate-write-characters
 slice-aggregate-write-characters c = search needs
 
 write-characters-requires : tie.Need-write-characters-requires
 write-characters-requires c κs =
-    let t = c .before .before in
-    let f = t .before in
-    let u = f .before .before in
+    let u = c .before .before .before in
     let a = u .before .before .before .before in
-    rw (t .digit-at2 .ensures, f .digit-at .ensures, its-digits u)
-    (omega (arith, a .pre .0), (sym (a .pre .0), six-digits-at (a .args .first) (a .args .third) (a .pre .1 .0) (a .pre .1 .1) (a .args .upper)))
+    rw (its-digits u) (omega (arith, a .pre), (sym (a .pre), six-digits-at (a .args .upper)))
+
+slice-write-callsign : tie.Need-slice-write-callsign
+slice-write-callsign c = search needs
+
+slice-write-callsign-2 : tie.Need-slice-write-callsign-2
+slice-write-callsign-2 c = simp length-set (omega arith)
 
 same-length : tie.Need-same-length
 same-length c = search needs
@@ -63,13 +58,9 @@ same-length c = search needs
 returns : tie.Need-returns
 returns c =
     let w = c .before .before in
-    let t = w .before .before .before in
-    let f = t .before in
-    let u = f .before .before in
-    let a = u .before .before .before .before in
-    w .write-characters .ensures
-    ∙ rw (t .digit-at2 .ensures, f .digit-at .ensures) (ap (λ (p : List ℕ). charactersFrom 0 (sixDigits (a .args .first) (a .args .third) p)) (its-digits u))
-    ∙ sym (callsignWith-characters (a .args .first) (a .args .third) (a .pre .1 .0) (a .pre .1 .1) (a .args .upper))
+    let u = w .before .before .before .before in
+    let a = u .before .before .before .before .args in
+    rw (w .write-characters .ensures, its-digits u) (sym (callsignWith-characters (a .channel) (a .upper)))
 
 pub write-callsign-spec : {M : Type 1} → statement M
 write-callsign-spec =
@@ -78,13 +69,13 @@ write-callsign-spec =
     slice-aggregate-unpack
     slice-aggregate-unpack-2
     unpack-requires
-    digit-at-requires
-    array-read-t15
-    digit-at-requires-2
-    array-read-t19
-    array-read-t22
-    array-read-t25
+    array-read-t6
+    array-read-t17
+    array-read-t20
+    array-read-t23
     slice-aggregate-write-characters
     write-characters-requires
+    slice-write-callsign
+    slice-write-callsign-2
     same-length
     returns)

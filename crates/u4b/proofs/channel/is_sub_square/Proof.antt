@@ -1,10 +1,10 @@
--- `telemetry::range::is_sub_square` meets its contract: one range of bytes.
+-- `u4b::channel::is_sub_square` meets its contract: one range of bytes.
 -- Assumes nothing.
 use mathlib.Core.Path.{sym}
 use native.Mathlib.Omega.{arith}
 use Rattle.basics.proofs.Choice.{between-true, between-below, between-above}
-use Rattle.telemetry.proofs.range.is_sub_square.Statement.{statement}
-use Rattle.telemetry.proofs.range.is_sub_square.Tie as tie
+use Rattle.u4b.proofs.channel.is_sub_square.Statement.{statement}
+use Rattle.u4b.proofs.channel.is_sub_square.Tie as tie
 
 returns : tie.Need-returns
 returns c = sym (between-true 65 88 _ (c .before .if1 .left) (omega arith))

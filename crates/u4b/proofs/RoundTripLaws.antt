@@ -1,0 +1,118 @@
+-- The round trips between a payload and its message, and that the reader refuses exactly the messages that the writer never makes.
+use mathlib.Core.Path.{_≡_, refl, sym, ap, _∙_}
+use mathlib.Core.Logic.{_↔_}
+use Prim.Native.Nat.{ℕ, _<_}
+use native.Mathlib.Nat.{mod-eq-of-lt}
+use native.Mathlib.Omega.{arith}
+use mathlib.Core.List.{List}
+use Rattle.radix.specs.Numeral.{count}
+use Rattle.refusal.specs.declared.Refusal.{Refusal}
+use Rattle.message.specs.Answer.{checked, contentAfter, messageNumbers}
+use Rattle.message.specs.declared.CheckAnswer.{CheckAnswer}
+use Rattle.message.specs.declared.MessageAnswer.{MessageAnswer}
+use Rattle.message.proofs.AnswerLaws.{right-lengths, legal-whole, checked-legal}
+use Rattle.u4b.specs.Characters.{upperRadices, callsignWith, lowerRadices, locatorWith, powerWith}
+use Rattle.u4b.specs.Answer.{payloadMessage, payloadCallsign, payloadLocator, payloadWritten, callsignAfterPayload, locatorAfterPayload, payloadOf, payloadRead, payloadNumbers}
+use Rattle.u4b.specs.RoundTrip.{writtenPart, PayloadWritesAs, PayloadReadsBack, PayloadWritesBack, PayloadRefused, NeverFromPayload, PayloadRefusedExactly}
+use Rattle.u4b.specs.declared.channel.FirstCharacters.{FirstCharacters}
+use Rattle.u4b.specs.declared.Payload.{Payload}
+use Rattle.u4b.specs.declared.PayloadAnswer.{PayloadAnswer}
+use Rattle.u4b.proofs.CallsignLaws.{upper-count, first-legal, third-legal, callsignWith-length, callsignWith-legal, callsignWith-taken, upperOf-callsignWith, first-of, third-of, callsignWith-upperOf}
+use Rattle.u4b.proofs.LocatorLaws.{lower-count, locatorWith-length, locatorWith-legal, powerWith-legal, lowerOf-locatorWith, locatorWith-lowerOf, powerWith-lowerOf}
+use Rattle.u4b.proofs.AnswerLaws.{Writable, writable, message-power, message-of-written, read-payload, Readable, readable}
+
+-- ---- What was written reads back
+
+-- Where the numbers are below their ends, nothing of them is left out.
+pub whole : (p : Payload) → p .upper < 632_736 → p .lower < 615_600 → writtenPart p ≡ p
+unfolding writtenPart
+whole p h k = rw (upper-count, lower-count, mod-eq-of-lt h, mod-eq-of-lt k)
+
+module _ (first : FirstCharacters) (p : Payload) (power : ℕ) (w : Writable first p power) where
+  -- What is written is a message of legal characters and power.
+  written-legal : checked (payloadCallsign p) (payloadLocator p) (powerWith (p .lower)) ≡ CheckAnswer.Legal
+  unfolding payloadCallsign payloadLocator
+  written-legal =
+      let six = callsignWith-length (p .channel) (p .upper) in
+      let four = locatorWith-length (p .lower) in
+      let callsign-legal = callsignWith-legal (p .channel) (p .upper) (first-legal first _ (w .is-first)) (third-legal _ (w .is-third)) in
+      checked-legal _ _ _ (right-lengths (callsignWith (p .channel) (p .upper)) (locatorWith (p .lower)) six four)
+      (legal-whole _ _ six four callsign-legal (locatorWith-legal (p .lower))) (powerWith-legal (p .lower))
+
+  written-read : payloadRead first (payloadCallsign p) (payloadLocator p) (powerWith (p .lower)) ≡ PayloadAnswer.Payload (writtenPart p)
+  unfolding payloadCallsign payloadLocator payloadOf writtenPart callsignWith
+  written-read =
+      read-payload first _ _ _ written-legal (omega (arith, callsignWith-taken (p .channel) (p .upper) first (w .is-first)))
+      ∙ rw (upperOf-callsignWith (p .channel) (p .upper), lowerOf-locatorWith (p .lower))
+
+pub read-write : (first : FirstCharacters) (p : Payload) (power : ℕ) → payloadMessage first p ≡ MessageAnswer.Power power
+    → payloadRead first (payloadCallsign p) (payloadLocator p) power ≡ PayloadAnswer.Payload (writtenPart p)
+read-write first p power e =
+    let w = writable first p power e in
+    rw (w .is-power) (written-read first p power w)
+
+-- ---- What was read writes back
+
+pub write-read : (first : FirstCharacters) (callsign locator : List ℕ) (power : ℕ) (p : Payload)
+    → payloadRead first callsign locator power ≡ PayloadAnswer.Payload p → PayloadWritesAs first p callsign locator power
+unfolding payloadCallsign payloadLocator payloadOf
+write-read first callsign locator power p e =
+    let r = readable first callsign locator power p e in
+    let l = r .legal in
+    let is-first = first-of callsign (l .six) first (l .callsign-legal) (r .taken) in
+    let is-third = third-of callsign (l .six) first (l .callsign-legal) (r .taken) in
+    let its-power = powerWith-lowerOf locator power (l .four) (l .locator-legal) (l .power-legal) in
+    rw (r .is-payload) (record {
+      its-power = message-power first (payloadOf callsign locator power) is-first is-third ∙ ap MessageAnswer.Power its-power;
+      its-callsign = callsignWith-upperOf callsign (l .six) first (l .callsign-legal) (r .taken);
+      its-locator = locatorWith-lowerOf locator power (l .four) (l .locator-legal) (l .power-legal);
+    })
+
+-- ---- The reader refuses exactly what the writer never makes
+
+pub refuses-exactly : (first : FirstCharacters) (callsign locator : List ℕ) (power : ℕ)
+    → PayloadRefused (payloadRead first callsign locator power) ↔ NeverFromPayload first callsign locator power
+refuses-exactly first callsign locator power =
+    (λ refused p w. never refused p w, λ never-written. exact (payloadRead first callsign locator power) refl never-written)
+  where
+    never : PayloadRefused (payloadRead first callsign locator power) → (p : Payload) → PayloadWritesAs first p callsign locator power → ⊥
+    never refused p w = rw (sym (w .its-callsign), sym (w .its-locator), read-write first p power (w .its-power)) at refused
+
+    exact : (answer : PayloadAnswer) → payloadRead first callsign locator power ≡ answer → NeverFromPayload first callsign locator power → PayloadRefused answer
+    exact (PayloadAnswer.Payload p) e never-written = never-written p (write-read first callsign locator power p e)
+    exact (PayloadAnswer.Refused f) e never-written = tt
+
+-- ---- What the functions promise, from their answers and what the lent buffers then hold
+
+module _ (first : FirstCharacters) (callsign locator : List ℕ) (p : Payload) where
+  abbrev pub WritePromised : MessageAnswer → List ℕ → List ℕ → Type 0
+  WritePromised answer its-callsign its-locator =
+      (answer ≡ payloadWritten first callsign locator p)
+      × ((messageNumbers answer ≡ messageNumbers (payloadWritten first callsign locator p))
+      × ((its-callsign ≡ callsignAfterPayload first callsign locator p)
+      × ((its-locator ≡ locatorAfterPayload first callsign locator p) × PayloadReadsBack answer first p its-callsign its-locator)))
+
+  reads-back : (answer : MessageAnswer) → payloadWritten first callsign locator p ≡ answer
+      → PayloadReadsBack answer first p (contentAfter answer callsign (payloadCallsign p)) (contentAfter answer locator (payloadLocator p))
+  unfolding contentAfter
+  reads-back (MessageAnswer.Power power) e = read-write first p power (message-of-written first callsign locator p power e)
+  reads-back (MessageAnswer.Refused f) e = tt
+
+  pub write-promised : (answer : MessageAnswer) → payloadWritten first callsign locator p ≡ answer
+      → WritePromised answer (contentAfter answer callsign (payloadCallsign p)) (contentAfter answer locator (payloadLocator p))
+  unfolding callsignAfterPayload locatorAfterPayload
+  write-promised answer e = (sym e, (rw e, (rw e, (rw e, reads-back answer e))))
+
+module _ (first : FirstCharacters) (callsign locator : List ℕ) (power : ℕ) where
+  abbrev pub ReadPromised : PayloadAnswer → Type 0
+  ReadPromised answer =
+      (answer ≡ payloadRead first callsign locator power)
+      × ((payloadNumbers answer ≡ payloadNumbers (payloadRead first callsign locator power))
+      × (PayloadWritesBack answer first callsign locator power × PayloadRefusedExactly answer first callsign locator power))
+
+  writes-back : (answer : PayloadAnswer) → payloadRead first callsign locator power ≡ answer → PayloadWritesBack answer first callsign locator power
+  writes-back (PayloadAnswer.Payload p) e = write-read first callsign locator power p e
+  writes-back (PayloadAnswer.Refused f) e = tt
+
+  pub read-promised : (answer : PayloadAnswer) → payloadRead first callsign locator power ≡ answer → ReadPromised answer
+  read-promised answer e = (sym e, (rw e, (writes-back answer e, rw e at (refuses-exactly first callsign locator power))))

@@ -1,0 +1,52 @@
+-- What writing and reading a payload promise of each other (demand 2): the round trips, and that the reader refuses exactly the messages
+-- that the writer never makes.
+use Prim.Native.Nat.{ℕ, _%_}
+use mathlib.Core.Path.{_≡_}
+use mathlib.Core.Logic.{_↔_}
+use mathlib.Core.List.{List}
+use Rattle.radix.specs.Numeral.{count}
+use Rattle.message.specs.declared.MessageAnswer.{MessageAnswer}
+use Rattle.u4b.specs.Characters.{upperRadices, lowerRadices}
+use Rattle.u4b.specs.Answer.{payloadMessage, payloadCallsign, payloadLocator, payloadRead}
+use Rattle.u4b.specs.declared.channel.FirstCharacters.{FirstCharacters}
+use Rattle.u4b.specs.declared.Payload.{Payload}
+use Rattle.u4b.specs.declared.PayloadAnswer.{PayloadAnswer}
+
+-- What is written of a payload: of each number only what is below its end, 632,736 and 615,600 (`upper-count`, `lower-count`).
+unfoldable pub writtenPart : Payload → Payload
+writtenPart payload = record {
+  channel = payload .channel;
+  upper = payload .upper % count upperRadices;
+  lower = payload .lower % count lowerRadices;
+}
+
+-- This message is written from the payload.
+pub record PayloadWritesAs (first : FirstCharacters) (payload : Payload) (callsign locator : List ℕ) (power : ℕ) : Type 0 where
+  pub its-power : payloadMessage first payload ≡ MessageAnswer.Power power
+  pub its-callsign : payloadCallsign payload ≡ callsign
+  pub its-locator : payloadLocator payload ≡ locator
+
+-- What was written reads back: the callsign and locator with the answer's power, where it has one.
+abbrev pub PayloadReadsBack : MessageAnswer → FirstCharacters → Payload → List ℕ → List ℕ → Type 0
+PayloadReadsBack (MessageAnswer.Power p) first payload callsign locator =
+    payloadRead first callsign locator p ≡ PayloadAnswer.Payload (writtenPart payload)
+PayloadReadsBack (MessageAnswer.Refused f) first payload callsign locator = Unit
+
+-- What was read writes back: the answer's payload, where it has one, writes the same message.
+abbrev pub PayloadWritesBack : PayloadAnswer → FirstCharacters → List ℕ → List ℕ → ℕ → Type 0
+PayloadWritesBack (PayloadAnswer.Payload p) first callsign locator power = PayloadWritesAs first p callsign locator power
+PayloadWritesBack (PayloadAnswer.Refused f) first callsign locator power = Unit
+
+-- The answer is a refusal.
+abbrev pub PayloadRefused : PayloadAnswer → Type 0
+PayloadRefused (PayloadAnswer.Payload p) = ⊥
+PayloadRefused (PayloadAnswer.Refused f) = Unit
+
+-- No payload writes this message. Characters that are no bytes are never taken, and a number that is no u64 writes what its part below the
+-- end writes, so that nothing is added by naming them here.
+abbrev pub NeverFromPayload : FirstCharacters → List ℕ → List ℕ → ℕ → Type 0
+NeverFromPayload first callsign locator power = (payload : Payload) → PayloadWritesAs first payload callsign locator power → ⊥
+
+-- The answer is a refusal exactly where no payload writes the message.
+abbrev pub PayloadRefusedExactly : PayloadAnswer → FirstCharacters → List ℕ → List ℕ → ℕ → Type 0
+PayloadRefusedExactly answer first callsign locator power = PayloadRefused answer ↔ NeverFromPayload first callsign locator power
