@@ -11,9 +11,9 @@ const DOCUMENTS: [&str; 3] = ["README.md", "docs/GUARANTEES.md", "docs/DECISIONS
 const SOURCES: [&str; 5] = ["crates", "host", "include", "tests", "bench"];
 
 /// Of the languages, the toolchain and the C library, and of the documents' own example of a clause.
-const FOREIGN: [&str; 20] = [
-    "requires", "ensures", "match", "while", "len", "use", "pub", "memcpy", "memset", "rt", "lib",
-    "mathlib", "check", "bytes", "io", "libc", "f", "clause", "specs", "proofs",
+const FOREIGN: [&str; 21] = [
+    "i32", "requires", "ensures", "match", "while", "len", "use", "pub", "memcpy", "memset", "rt",
+    "lib", "mathlib", "check", "bytes", "io", "libc", "f", "clause", "specs", "proofs",
 ];
 
 fn root() -> PathBuf {
@@ -51,7 +51,7 @@ fn antt_name(line: &str) -> Option<&str> {
     let keywords = ["pub", "unfoldable", "abbrev", "record", "data"];
     let mut words = line.split_whitespace().skip_while(|word| keywords.contains(word));
     let name = words.next().filter(|word| word.chars().all(in_name))?;
-    (line.contains(" : ") && words.next().is_some()).then_some(name)
+    (line.contains(" : ") || line.ends_with(" :")).then_some(name)
 }
 
 /// The names that a line of Rattle, Rust or C declares: of functions, types, constants and clauses.
@@ -102,7 +102,8 @@ fn parts(quoted: &str) -> Vec<&str> {
     let (path, clause) = quoted.split_once(": ").unwrap_or((quoted, ""));
     let parts: Vec<&str> =
         path.split("::").chain([clause]).filter(|part| !part.is_empty()).collect();
-    if parts.iter().all(|part| part.chars().all(in_name)) {
+    let is_name = |part: &&str| part.starts_with(char::is_alphabetic) && part.chars().all(in_name);
+    if parts.iter().all(is_name) {
         parts
     } else {
         Vec::new()
