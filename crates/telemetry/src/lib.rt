@@ -40,7 +40,7 @@ pub struct Reading {
     pub sensors: Sensors,
 }
 
-// The answer of `read`.
+// What a message says as telemetry, or why it says nothing: the answer of `read` and `read_word`.
 pub enum TelemetryAnswer {
     Telemetry(Reading),
     Refused(Refusal),

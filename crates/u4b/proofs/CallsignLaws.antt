@@ -65,6 +65,10 @@ third-of-legal byte e =
     let same : byte ≡ value byte + 48 = sym (character-value byte (omega arith)) ∙ character-digit small in
     between-true 48 57 byte (omega arith) (omega arith)
 
+-- Every character of a callsign is taken at its place.
+abbrev AllTaken : FirstCharacters → List ℕ → Type 0
+AllTaken taken callsign = AllPass (takenAt (lettersAlone taken)) 0 callsign
+
 -- ---- The callsign with a number
 
 -- The digits at the six places, from those of the number. Places 0 and 2 are the channel's.
@@ -106,8 +110,7 @@ module _ (channel : Channel) (a : ℕ) where
       (first, (characters .1 .0, (third, characters .1 .1 .1)))
 
   module _ (taken : FirstCharacters) (is-first : isFirstCharacter taken (channel .first) ≡ true) where
-    -- Every character in it is taken at its place.
-    all-taken : AllPass (takenAt (lettersAlone taken)) 0 (callsignWith channel a)
+    all-taken : AllTaken taken (callsignWith channel a)
     unfolding AllPass Digits takenAt callsignWith characterAt digitsOf setAt callsignSets locatorSets upperRadices
     all-taken =
         let p = digits-in-range upperRadices a upper-positive in (
@@ -139,7 +142,7 @@ module _ (c0 c1 c2 c3 c4 c5 : ℕ) where
   abbrev callsign : List ℕ
   callsign = c0 ∷ c1 ∷ c2 ∷ c3 ∷ c4 ∷ c5 ∷ []
 
-  module _ (taken : FirstCharacters) (legal : AllLegal 0 callsign) (all-taken : AllPass (takenAt (lettersAlone taken)) 0 callsign) where
+  module _ (taken : FirstCharacters) (legal : AllLegal 0 callsign) (all-taken : AllTaken taken callsign) where
     digits-in : Digits upperRadices (upperDigits callsign)
     unfolding AllPass Digits DigitsAt takenAt legalAt upperDigits digitsFrom overPlaces digitAt setAt callsignSets locatorSets upperRadices
     digits-in =
@@ -166,14 +169,14 @@ module _ (callsign : List ℕ) (six : length callsign ≡ 6) where
   its-characters = by-places 6 callsign six
 
   module _ (taken : FirstCharacters) (legal : AllLegal 0 callsign) (none : 6 ≤ firstNotTaken (lettersAlone taken) callsign) where
-    its-taken : AllPass (takenAt (lettersAlone taken)) 0 callsign
+    its-taken : AllTaken taken callsign
     unfolding firstNotTaken
     its-taken = all-pass (takenAt (lettersAlone taken)) 0 callsign (omega arith)
 
     -- The channel's characters are in range.
     pub first-of : isFirstCharacter taken (getD callsign 0 0) ≡ true
     unfolding takenAt AllPass
-    first-of = subst (AllPass (takenAt (lettersAlone taken)) 0) its-characters its-taken .0
+    first-of = subst (AllTaken taken) its-characters its-taken .0
 
     pub third-of : isThirdCharacter (getD callsign 2 0) ≡ true
     unfolding AllPass
@@ -182,10 +185,10 @@ module _ (callsign : List ℕ) (six : length callsign ≡ 6) where
     pub upper-digits-in : Digits upperRadices (upperDigits callsign)
     upper-digits-in =
         subst (λ (l : List ℕ). Digits upperRadices (upperDigits l)) (sym its-characters)
-        (digits-in _ _ _ _ _ _ taken (subst (AllLegal 0) its-characters legal) (subst (AllPass (takenAt (lettersAlone taken)) 0) its-characters its-taken))
+        (digits-in _ _ _ _ _ _ taken (subst (AllLegal 0) its-characters legal) (subst (AllTaken taken) its-characters its-taken))
 
     -- The channel's characters and the number make the callsign again.
     pub callsignWith-upperOf : callsignWith (record { first = getD callsign 0 0; third = getD callsign 2 0 }) (upperOf callsign) ≡ callsign
     callsignWith-upperOf =
         subst (λ (l : List ℕ). callsignWith (record { first = getD l 0 0; third = getD l 2 0 }) (upperOf l) ≡ l) (sym its-characters)
-        (callsign-again _ _ _ _ _ _ taken (subst (AllLegal 0) its-characters legal) (subst (AllPass (takenAt (lettersAlone taken)) 0) its-characters its-taken))
+        (callsign-again _ _ _ _ _ _ taken (subst (AllLegal 0) its-characters legal) (subst (AllTaken taken) its-characters its-taken))

@@ -5,13 +5,11 @@ use Prim.Native.Nat.{ℕ, _<_}
 use native.Mathlib.Nat.{mod-eq-of-lt}
 use native.Mathlib.Omega.{arith}
 use mathlib.Core.List.{List}
-use Rattle.radix.specs.Numeral.{count}
-use Rattle.refusal.specs.declared.Refusal.{Refusal}
 use Rattle.message.specs.Answer.{checked, contentAfter, messageNumbers}
 use Rattle.message.specs.declared.CheckAnswer.{CheckAnswer}
 use Rattle.message.specs.declared.MessageAnswer.{MessageAnswer}
 use Rattle.message.proofs.AnswerLaws.{right-lengths, legal-whole, checked-legal}
-use Rattle.u4b.specs.Characters.{upperRadices, callsignWith, lowerRadices, locatorWith, powerWith}
+use Rattle.u4b.specs.Characters.{callsignWith, locatorWith, powerWith}
 use Rattle.u4b.specs.Answer.{payloadMessage, payloadCallsign, payloadLocator, payloadWritten, callsignAfterPayload, locatorAfterPayload, payloadOf, payloadRead, payloadNumbers}
 use Rattle.u4b.specs.RoundTrip.{writtenPart, PayloadWritesAs, PayloadReadsBack, PayloadWritesBack, PayloadRefused, NeverFromPayload, PayloadRefusedExactly}
 use Rattle.u4b.specs.declared.channel.FirstCharacters.{FirstCharacters}
@@ -19,7 +17,7 @@ use Rattle.u4b.specs.declared.Payload.{Payload}
 use Rattle.u4b.specs.declared.PayloadAnswer.{PayloadAnswer}
 use Rattle.u4b.proofs.CallsignLaws.{upper-count, first-legal, third-legal, callsignWith-length, callsignWith-legal, callsignWith-taken, upperOf-callsignWith, first-of, third-of, callsignWith-upperOf}
 use Rattle.u4b.proofs.LocatorLaws.{lower-count, locatorWith-length, locatorWith-legal, powerWith-legal, lowerOf-locatorWith, locatorWith-lowerOf, powerWith-lowerOf}
-use Rattle.u4b.proofs.AnswerLaws.{Writable, writable, message-power, message-of-written, read-payload, Readable, readable}
+use Rattle.u4b.proofs.AnswerLaws.{Writable, writable, message-power, message-of-written, read-payload, readable}
 
 -- ---- What was written reads back
 

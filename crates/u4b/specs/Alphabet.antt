@@ -7,8 +7,8 @@ use Rattle.basics.specs.Lists.{firstFailing}
 use Rattle.u4b.specs.Channel.{isFirstCharacter}
 use Rattle.u4b.specs.declared.alphabet.Alphabet.{Alphabet}
 
--- A legal character is taken at its place, but for 10: "first character isn't 0, 1, Q, or a space in places 3 to 5"; one that may stand
--- last is taken in place 5. In ASCII the space is 32.
+-- A legal character is taken at its place, unless 10 names it: "first character isn't 0, 1, Q, or a space in places 3 to 5". Where a space
+-- may stand last, it is taken in place 5. In ASCII the space is 32.
 unfoldable pub takenAt : Alphabet → ℕ → ℕ → Bool
 takenAt alphabet place byte =
     cond (eqb place 0) (isFirstCharacter (alphabet .first) byte)

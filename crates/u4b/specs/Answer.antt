@@ -59,7 +59,7 @@ payloadOf callsign locator power = record {
   lower = lowerOf locator power;
 }
 
--- The numbers stand in letters alone: no space may be among them.
+-- In places 3 to 5 the numbers stand in letters alone.
 abbrev pub lettersAlone : FirstCharacters → Alphabet
 lettersAlone first = record { first = first; «last_space» = false }
 

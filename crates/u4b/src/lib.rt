@@ -81,7 +81,7 @@ pub fn read(first: FirstCharacters, callsign: &[u8], locator: &[u8], power: u32)
     if let CheckAnswer::Refused(refusal) = checked {
         return PayloadAnswer::Refused(refusal);
     }
-    // The numbers stand in letters alone.
+    // In places 3 to 5 the numbers stand in letters alone.
     let alphabet = Alphabet {
         first,
         last_space: false,

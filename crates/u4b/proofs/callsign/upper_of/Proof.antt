@@ -1,13 +1,9 @@
 -- `u4b::callsign::upper_of` meets its contract: the digits of places 1, 3, 4, 5 are below their radices, and `radix::pack` makes their
 -- number.
 -- Assumes nothing.
-use mathlib.Core.Path.{_≡_, ap, _∙_}
-use Prim.Native.Nat.{ℕ}
+use mathlib.Core.Path.{_∙_}
 use native.Mathlib.Omega.{arith}
-use mathlib.Core.List.{List, [], _∷_}
-use lib.ListN.{getD}
 use borrow.Author.Needs.{needs}
-use Rattle.radix.specs.Numeral.{numberOf}
 use Rattle.u4b.specs.Characters.{upperRadices, upperDigits, upperOf}
 use Rattle.u4b.proofs.CallsignLaws.{upper-count}
 use Rattle.u4b.proofs.callsign.upper_of.Statement.{statement}
