@@ -12,7 +12,7 @@ use Rattle.basics.proofs.Choice.{cond-passed, cond-held, cond-both, by-test}
 use Rattle.basics.proofs.ListLaws.{sameList-equal, sameList-itself}
 use Rattle.refusal.specs.declared.Refusal.{Refusal}
 use Rattle.refusal.specs.Refusals.{refusal, wrongLength, wordTooLarge, symbolTooLarge, wrongSync, noWord}
-use Rattle.message.specs.Answer.{packed, wordNumbers, messageNumbers}
+use Rattle.message.specs.Answer.{messagePacked, wordNumbers, messageNumbers}
 use Rattle.message.specs.Word.{wordOf}
 use Rattle.message.specs.declared.WordAnswer.{WordAnswer}
 use Rattle.message.specs.declared.MessageAnswer.{MessageAnswer}
@@ -62,32 +62,32 @@ module _ (callsign locator : List ℕ) (power : ℕ) (frame : List ℕ) where
   unfolding messageWritten
   message-length other = rw (ne-eqb _ _ other)
 
-  message-packed : length frame ≡ 162 → messageWritten callsign locator power frame ≡ writtenAs (packed callsign locator power)
+  message-packed : length frame ≡ 162 → messageWritten callsign locator power frame ≡ writtenAs (messagePacked callsign locator power)
   unfolding messageWritten
   message-packed e = rw (eq-eqb _ _ e)
 
   -- A message that is packed is written, and its word's frame is what the lent frame then holds.
-  pub message-done : (word : ℕ) → length frame ≡ 162 → packed callsign locator power ≡ WordAnswer.Word word
+  pub message-done : (word : ℕ) → length frame ≡ 162 → messagePacked callsign locator power ≡ WordAnswer.Word word
       → (messageWritten callsign locator power frame ≡ WriteAnswer.Done) × (frameAfterMessage callsign locator power frame ≡ frameOf word)
   unfolding writtenAs frameAfterMessage frameAfter
   message-done word right made =
       let done : messageWritten callsign locator power frame ≡ WriteAnswer.Done = message-packed right ∙ ap writtenAs made in
       (done, rw (done, legal-of-packed callsign locator power word made .1))
 
-  pub message-refused : (f : Refusal) → length frame ≡ 162 → packed callsign locator power ≡ WordAnswer.Refused f
+  pub message-refused : (f : Refusal) → length frame ≡ 162 → messagePacked callsign locator power ≡ WordAnswer.Refused f
       → messageWritten callsign locator power frame ≡ WriteAnswer.Refused f
   unfolding writtenAs
   message-refused f right refused = message-packed right ∙ ap writtenAs refused
 
   pub done-of-message : messageWritten callsign locator power frame ≡ WriteAnswer.Done
-      → (length frame ≡ 162) × (packed callsign locator power ≡ WordAnswer.Word (wordOf callsign locator power))
+      → (length frame ≡ 162) × (messagePacked callsign locator power ≡ WordAnswer.Word (wordOf callsign locator power))
   unfolding messageWritten writtenAs
   done-of-message e =
       let lengths = cond-passed (not (eqb (length frame) 162)) e (refused-not-done _) in
-      (eqb-true _ _ (not-false _ (lengths .0)), its-word (packed callsign locator power) refl (lengths .1))
+      (eqb-true _ _ (not-false _ (lengths .0)), its-word (messagePacked callsign locator power) refl (lengths .1))
     where
-      its-word : (answer : WordAnswer) → packed callsign locator power ≡ answer → writtenAs answer ≡ WriteAnswer.Done
-          → packed callsign locator power ≡ WordAnswer.Word (wordOf callsign locator power)
+      its-word : (answer : WordAnswer) → messagePacked callsign locator power ≡ answer → writtenAs answer ≡ WriteAnswer.Done
+          → messagePacked callsign locator power ≡ WordAnswer.Word (wordOf callsign locator power)
       its-word (WordAnswer.Word w) p done = p ∙ ap WordAnswer.Word (legal-of-packed callsign locator power w p .1)
       its-word (WordAnswer.Refused f) p done = absurd (refused-not-done f done)
 
@@ -181,7 +181,7 @@ pub message-answered : (callsign locator : List ℕ) (power : ℕ) (frame : List
 unfolding messageWritten writeNumbers writtenAs wordNumbers
 message-answered callsign locator power frame =
     let P : WriteAnswer → Type 0 = λ a. writeNumbers a .number ≡ 0 → a ≡ WriteAnswer.Done in
-    cond-both P (not (eqb (length frame) 162)) (λ z. absurd (omega arith)) (go (packed callsign locator power) (packed-answered callsign locator power))
+    cond-both P (not (eqb (length frame) 162)) (λ z. absurd (omega arith)) (go (messagePacked callsign locator power) (packed-answered callsign locator power))
   where
     go : (answer : WordAnswer) → (wordNumbers answer .number ≡ 0 → answer ≡ WordAnswer.Word (wordNumbers answer .word))
         → writeNumbers (writtenAs answer) .number ≡ 0 → writtenAs answer ≡ WriteAnswer.Done

@@ -9,7 +9,7 @@ use Rattle.basics.proofs.Choice.{cond-passed, by-test}
 use Rattle.basics.proofs.ListLaws.{sameList-equal}
 use Rattle.refusal.specs.declared.Refusal.{Refusal}
 use Rattle.refusal.specs.Refusals.{refusal, noWord}
-use Rattle.message.specs.Answer.{rightLengths, packed, unpacked, callsignAfterUnpack, locatorAfterUnpack, contentAfter, wordNumbers, messageNumbers}
+use Rattle.message.specs.Answer.{rightLengths, messagePacked, wordUnpacked, callsignAfterUnpack, locatorAfterUnpack, contentAfter, wordNumbers, messageNumbers}
 use Rattle.message.specs.Word.{wordOf, callsignOf, locatorOf}
 use Rattle.message.specs.RoundTrip.{WordRefused, MessageRefused}
 use Rattle.message.specs.declared.WordAnswer.{WordAnswer}
@@ -90,13 +90,13 @@ no-word-refused frame = (
 -- ---- A message and its frame
 
 -- A message's frame reads as the message.
-reads-as : (callsign locator : List ℕ) (power word : ℕ) → packed callsign locator power ≡ WordAnswer.Word word
+reads-as : (callsign locator : List ℕ) (power word : ℕ) → messagePacked callsign locator power ≡ WordAnswer.Word word
     → ReadsAsMessage (frameOf word) callsign locator power
 unfolding messageRead callsignAfterRead locatorAfterRead messageIfWord callsignIfWord locatorIfWord callsignAfterUnpack locatorAfterUnpack contentAfter
 reads-as callsign locator power word made c l six four =
     let back = unpack-pack callsign locator power word made in
     let read = read-frameOf word (back .in-50-bits) in
-    let answer : unpacked c l word ≡ MessageAnswer.Power power = unpacked-read c l word (right-lengths c l six four) ∙ back .its-power in
+    let answer : wordUnpacked c l word ≡ MessageAnswer.Power power = unpacked-read c l word (right-lengths c l six four) ∙ back .its-power in
     (rw read answer, (rw (read, answer) (back .its-callsign), rw (read, answer) (back .its-locator)))
 
 pub message-reads-back : (callsign locator : List ℕ) (power : ℕ) (frame : List ℕ)
@@ -111,7 +111,7 @@ message-reads-back callsign locator power frame = go (messageWritten callsign lo
     go (WriteAnswer.Refused f) e = tt
 
 -- A message with this word writes its frame.
-writes-as : (callsign locator : List ℕ) (power word : ℕ) (frame : List ℕ) → packed callsign locator power ≡ WordAnswer.Word word
+writes-as : (callsign locator : List ℕ) (power word : ℕ) (frame : List ℕ) → messagePacked callsign locator power ≡ WordAnswer.Word word
     → frameOf word ≡ frame → MessageWritesAs callsign locator power frame
 writes-as callsign locator power word frame made same before right =
     let written = message-done callsign locator power before word right made in
@@ -120,7 +120,7 @@ writes-as callsign locator power word frame made same before right =
 -- The answer with a power is that of a frame with a word that has that power.
 power-of-read : (frame c l : List ℕ) (power : ℕ) → messageRead frame c l ≡ MessageAnswer.Power power
     → MessageWritesAs (callsignAfterRead frame c l) (locatorAfterRead frame c l) power frame
-unfolding messageRead callsignAfterRead locatorAfterRead messageIfWord callsignIfWord locatorIfWord callsignAfterUnpack locatorAfterUnpack contentAfter unpacked
+unfolding messageRead callsignAfterRead locatorAfterRead messageIfWord callsignIfWord locatorIfWord callsignAfterUnpack locatorAfterUnpack contentAfter wordUnpacked
 power-of-read frame c l power = go (wordRead frame) refl
   where
     go : (answer : WordAnswer) → wordRead frame ≡ answer → messageIfWord answer c l ≡ MessageAnswer.Power power
@@ -222,7 +222,7 @@ module _ (frame callsign locator : List ℕ) where
 
   -- A frame with a word is read as the word is.
   pub read-message-word : (word : ℕ) (answer : MessageAnswer) (its-callsign its-locator : List ℕ) → wordRead frame ≡ WordAnswer.Word word
-      → answer ≡ unpacked callsign locator word → its-callsign ≡ callsignAfterUnpack callsign locator word
+      → answer ≡ wordUnpacked callsign locator word → its-callsign ≡ callsignAfterUnpack callsign locator word
       → its-locator ≡ locatorAfterUnpack callsign locator word → ReadMessagePromised answer its-callsign its-locator
   unfolding messageRead callsignAfterRead locatorAfterRead messageIfWord callsignIfWord locatorIfWord
   read-message-word word answer its-callsign its-locator e e₂ e₃ e₄ =

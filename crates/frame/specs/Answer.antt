@@ -7,7 +7,7 @@ use lib.ListN.{length}
 use Rattle.basics.specs.Lists.{firstFailing, sameList}
 use Rattle.refusal.specs.Refusals.{refusal, success, wrongLength, wordTooLarge, symbolTooLarge, wrongSync, noWord}
 use Rattle.refusal.specs.declared.Refusal.{Refusal}
-use Rattle.message.specs.Answer.{packed, unpacked, callsignAfterUnpack, locatorAfterUnpack, wordNumbers}
+use Rattle.message.specs.Answer.{messagePacked, wordUnpacked, callsignAfterUnpack, locatorAfterUnpack, wordNumbers}
 use Rattle.message.specs.Word.{wordOf}
 use Rattle.message.specs.declared.WordAnswer.{WordAnswer}
 use Rattle.message.specs.declared.MessageAnswer.{MessageAnswer}
@@ -32,7 +32,7 @@ writtenAs (WordAnswer.Refused f) = WriteAnswer.Refused f
 -- From a message: 1 for any of the three buffers, then 2, 3.
 unfoldable pub messageWritten : List ℕ → List ℕ → ℕ → List ℕ → WriteAnswer
 messageWritten callsign locator power frame =
-    cond (not (eqb (length frame) 162)) (WriteAnswer.Refused (refusal wrongLength 0)) (writtenAs (packed callsign locator power))
+    cond (not (eqb (length frame) 162)) (WriteAnswer.Refused (refusal wrongLength 0)) (writtenAs (messagePacked callsign locator power))
 
 -- What the lent frame holds after the answer: what it held where that is a refusal, else the symbols.
 unfoldable pub frameAfter : WriteAnswer → List ℕ → List ℕ → List ℕ
@@ -77,7 +77,7 @@ wordRead frame =
 
 -- The answer, and what the lent callsign and locator then hold, given the answer to the word.
 unfoldable pub messageIfWord : WordAnswer → List ℕ → List ℕ → MessageAnswer
-messageIfWord (WordAnswer.Word w) callsign locator = unpacked callsign locator w
+messageIfWord (WordAnswer.Word w) callsign locator = wordUnpacked callsign locator w
 messageIfWord (WordAnswer.Refused f) callsign locator = MessageAnswer.Refused f
 
 unfoldable pub callsignIfWord : WordAnswer → List ℕ → List ℕ → List ℕ

@@ -13,7 +13,7 @@ use Rattle.refusal.specs.Refusals.{refusal, wrongLength, badCharacter, badPower
 use Rattle.message.specs.Character.{firstBad, legalAt}
 use Rattle.power.specs.Powers.{legalPower}
 use Rattle.message.specs.Word.{wordOf, callsignPart, locatorPart, powerPart}
-use Rattle.message.specs.Answer.{rightLengths, checked, wordIfLegal, packed, wordMessage, unpacked, wordNumbers, messageNumbers}
+use Rattle.message.specs.Answer.{rightLengths, messageChecked, wordIfLegal, messagePacked, wordMessage, wordUnpacked, wordNumbers, messageNumbers}
 use Rattle.message.specs.declared.CheckAnswer.{CheckAnswer}
 use Rattle.message.specs.declared.WordAnswer.{WordAnswer}
 use Rattle.message.specs.declared.MessageAnswer.{MessageAnswer}
@@ -41,33 +41,33 @@ pub record Legal (callsign locator : List ℕ) (power : ℕ) : Type 0 where
   pub power-legal : legalPower power ≡ true
 
 module _ (callsign locator : List ℕ) (power : ℕ) where
-  pub checked-length : rightLengths (length callsign) (length locator) ≡ false → checked callsign locator power ≡ CheckAnswer.Refused (refusal wrongLength 0)
-  unfolding checked
+  pub checked-length : rightLengths (length callsign) (length locator) ≡ false → messageChecked callsign locator power ≡ CheckAnswer.Refused (refusal wrongLength 0)
+  unfolding messageChecked
   checked-length e = rw e
 
   module _ (right : rightLengths (length callsign) (length locator) ≡ true) where
     pub checked-character : (bad : ℕ) → firstBad 0 (callsign ++ locator) ≡ bad → bad < 10
-        → checked callsign locator power ≡ CheckAnswer.Refused (refusal badCharacter bad)
-    unfolding checked
+        → messageChecked callsign locator power ≡ CheckAnswer.Refused (refusal badCharacter bad)
+    unfolding messageChecked
     checked-character bad e h = rw (right, e, lt-ltb bad 10 h)
 
     module _ (good : 10 ≤ firstBad 0 (callsign ++ locator)) where
-      pub checked-power : legalPower power ≡ false → checked callsign locator power ≡ CheckAnswer.Refused (refusal badPower 0)
-      unfolding checked
+      pub checked-power : legalPower power ≡ false → messageChecked callsign locator power ≡ CheckAnswer.Refused (refusal badPower 0)
+      unfolding messageChecked
       checked-power e = rw (right, le-ltb _ 10 good, e)
 
-      pub checked-legal : legalPower power ≡ true → checked callsign locator power ≡ CheckAnswer.Legal
-      unfolding checked
+      pub checked-legal : legalPower power ≡ true → messageChecked callsign locator power ≡ CheckAnswer.Legal
+      unfolding messageChecked
       checked-legal e = rw (right, le-ltb _ 10 good, e)
 
   -- ---- The cases of packing it
 
-  pub packed-refused : (f : Refusal) → checked callsign locator power ≡ CheckAnswer.Refused f → packed callsign locator power ≡ WordAnswer.Refused f
-  unfolding packed wordIfLegal
+  pub packed-refused : (f : Refusal) → messageChecked callsign locator power ≡ CheckAnswer.Refused f → messagePacked callsign locator power ≡ WordAnswer.Refused f
+  unfolding messagePacked wordIfLegal
   packed-refused f e = rw e
 
-  pub packed-word : checked callsign locator power ≡ CheckAnswer.Legal → packed callsign locator power ≡ WordAnswer.Word (wordOf callsign locator power)
-  unfolding packed wordIfLegal
+  pub packed-word : messageChecked callsign locator power ≡ CheckAnswer.Legal → messagePacked callsign locator power ≡ WordAnswer.Word (wordOf callsign locator power)
+  unfolding messagePacked wordIfLegal
   packed-word e = rw e
 
 -- The characters of a message that is packed, part by part.
@@ -92,8 +92,8 @@ legal-message callsign locator power right good legal =
 refused-not-legal : (f : Refusal) → CheckAnswer.Refused f ≡ CheckAnswer.Legal → ⊥
 refused-not-legal f e = let z : _≡_ {A = ℕ} 0 1 = cc in omega arith
 
-pub legal-of-checked : (callsign locator : List ℕ) (power : ℕ) → checked callsign locator power ≡ CheckAnswer.Legal → Legal callsign locator power
-unfolding checked
+pub legal-of-checked : (callsign locator : List ℕ) (power : ℕ) → messageChecked callsign locator power ≡ CheckAnswer.Legal → Legal callsign locator power
+unfolding messageChecked
 legal-of-checked callsign locator power e =
     let lengths = cond-passed (not (rightLengths (length callsign) (length locator))) e (refused-not-legal _) in
     let characters = cond-passed (ltb (firstBad 0 (callsign ++ locator)) 10) (lengths .1) (refused-not-legal _) in
@@ -104,11 +104,11 @@ legal-of-checked callsign locator power e =
 pub refused-no-word : (f : Refusal) (word : ℕ) → WordAnswer.Refused f ≡ WordAnswer.Word word → ⊥
 refused-no-word f word e = let z : _≡_ {A = ℕ} 0 1 = cc in omega arith
 
-pub legal-of-packed : (callsign locator : List ℕ) (power word : ℕ) → packed callsign locator power ≡ WordAnswer.Word word
+pub legal-of-packed : (callsign locator : List ℕ) (power word : ℕ) → messagePacked callsign locator power ≡ WordAnswer.Word word
     → Legal callsign locator power × (word ≡ wordOf callsign locator power)
-legal-of-packed callsign locator power word e = go (checked callsign locator power) refl
+legal-of-packed callsign locator power word e = go (messageChecked callsign locator power) refl
   where
-    go : (answer : CheckAnswer) → checked callsign locator power ≡ answer → Legal callsign locator power × (word ≡ wordOf callsign locator power)
+    go : (answer : CheckAnswer) → messageChecked callsign locator power ≡ answer → Legal callsign locator power × (word ≡ wordOf callsign locator power)
     go CheckAnswer.Legal c =
         let made = packed-word callsign locator power c in
         (legal-of-checked callsign locator power c, cc)
@@ -180,12 +180,12 @@ readable word power e =
 -- ---- The cases of unpacking into lent buffers
 
 module _ (callsign locator : List ℕ) (word : ℕ) where
-  pub unpacked-length : rightLengths (length callsign) (length locator) ≡ false → unpacked callsign locator word ≡ MessageAnswer.Refused (refusal wrongLength 0)
-  unfolding unpacked
+  pub unpacked-length : rightLengths (length callsign) (length locator) ≡ false → wordUnpacked callsign locator word ≡ MessageAnswer.Refused (refusal wrongLength 0)
+  unfolding wordUnpacked
   unpacked-length e = rw e
 
-  pub unpacked-read : rightLengths (length callsign) (length locator) ≡ true → unpacked callsign locator word ≡ wordMessage word
-  unfolding unpacked
+  pub unpacked-read : rightLengths (length callsign) (length locator) ≡ true → wordUnpacked callsign locator word ≡ wordMessage word
+  unfolding wordUnpacked
   unpacked-read e = rw e
 
 -- ---- The refusal number 0 is that of the answers that are no refusal
@@ -194,8 +194,8 @@ module _ (callsign locator : List ℕ) (word : ℕ) where
 Nonzero : CheckAnswer → Type 0
 Nonzero answer = (f : Refusal) → answer ≡ CheckAnswer.Refused f → f .number ≡ 0 → ⊥
 
-pub checked-nonzero : (callsign locator : List ℕ) (power : ℕ) (f : Refusal) → checked callsign locator power ≡ CheckAnswer.Refused f → f .number ≡ 0 → ⊥
-unfolding Nonzero checked
+pub checked-nonzero : (callsign locator : List ℕ) (power : ℕ) (f : Refusal) → messageChecked callsign locator power ≡ CheckAnswer.Refused f → f .number ≡ 0 → ⊥
+unfolding Nonzero messageChecked
 checked-nonzero callsign locator power =
     let bad = firstBad 0 (callsign ++ locator) in
     cond-both Nonzero (not (rightLengths (length callsign) (length locator))) (λ f e z. let n : wrongLength ≡ f .number = cc in omega arith)
@@ -208,14 +208,14 @@ unfolding Nonzero wordIfLegal wordNumbers
 word-answered CheckAnswer.Legal word h z = refl
 word-answered (CheckAnswer.Refused f) word h z = absurd (h f refl z)
 
-pub packed-answered : (callsign locator : List ℕ) (power : ℕ) → wordNumbers (packed callsign locator power) .number ≡ 0
-    → packed callsign locator power ≡ WordAnswer.Word (wordNumbers (packed callsign locator power) .word)
-unfolding Nonzero packed
-packed-answered callsign locator power = word-answered (checked callsign locator power) _ (checked-nonzero callsign locator power)
+pub packed-answered : (callsign locator : List ℕ) (power : ℕ) → wordNumbers (messagePacked callsign locator power) .number ≡ 0
+    → messagePacked callsign locator power ≡ WordAnswer.Word (wordNumbers (messagePacked callsign locator power) .word)
+unfolding Nonzero messagePacked
+packed-answered callsign locator power = word-answered (messageChecked callsign locator power) _ (checked-nonzero callsign locator power)
 
-pub unpacked-answered : (callsign locator : List ℕ) (word : ℕ) → messageNumbers (unpacked callsign locator word) .number ≡ 0
-    → unpacked callsign locator word ≡ MessageAnswer.Power (messageNumbers (unpacked callsign locator word) .power)
-unfolding unpacked wordMessage messageNumbers
+pub unpacked-answered : (callsign locator : List ℕ) (word : ℕ) → messageNumbers (wordUnpacked callsign locator word) .number ≡ 0
+    → wordUnpacked callsign locator word ≡ MessageAnswer.Power (messageNumbers (wordUnpacked callsign locator word) .power)
+unfolding wordUnpacked wordMessage messageNumbers
 unpacked-answered callsign locator word =
     let P : MessageAnswer → Type 0 = λ a. messageNumbers a .number ≡ 0 → a ≡ MessageAnswer.Power (messageNumbers a .power) in
     cond-both P (not (rightLengths (length callsign) (length locator))) (λ z. absurd (omega arith))

@@ -8,7 +8,7 @@ use mathlib.Core.List.{List}
 use lib.ListN.{length}
 use Rattle.refusal.specs.declared.Refusal.{Refusal}
 use Rattle.message.specs.Word.{callsignNumber, locatorNumber, lowerNumber, wordFrom, wordOf, callsignPart, locatorPart, powerPart, callsignWithNumber, locatorWithNumber, callsignOf, locatorOf}
-use Rattle.message.specs.Answer.{rightLengths, packed, wordMessage, unpacked, contentAfter, callsignAfterUnpack, locatorAfterUnpack, messageNumbers}
+use Rattle.message.specs.Answer.{rightLengths, messagePacked, wordMessage, wordUnpacked, contentAfter, callsignAfterUnpack, locatorAfterUnpack, messageNumbers}
 use Rattle.message.specs.RoundTrip.{UnpacksAs, PacksBack, MessageRefused, NeverPacked, UnpackRefusedExactly}
 use Rattle.message.specs.declared.WordAnswer.{WordAnswer}
 use Rattle.message.specs.declared.MessageAnswer.{MessageAnswer}
@@ -19,7 +19,7 @@ use Rattle.message.proofs.AnswerLaws.{right-lengths, checked-legal, pac
 -- ---- The round trips
 
 -- A packed message reads back.
-pub unpack-pack : (callsign locator : List ℕ) (power word : ℕ) → packed callsign locator power ≡ WordAnswer.Word word
+pub unpack-pack : (callsign locator : List ℕ) (power word : ℕ) → messagePacked callsign locator power ≡ WordAnswer.Word word
     → UnpacksAs word callsign locator power
 unfolding wordOf callsignOf locatorOf
 unpack-pack callsign locator power word e =
@@ -43,7 +43,7 @@ unpack-pack callsign locator power word e =
     })
 
 -- A word that is read packs back.
-pub pack-unpack : (word power : ℕ) → wordMessage word ≡ MessageAnswer.Power power → packed (callsignOf word) (locatorOf word) power ≡ WordAnswer.Word word
+pub pack-unpack : (word power : ℕ) → wordMessage word ≡ MessageAnswer.Power power → messagePacked (callsignOf word) (locatorOf word) power ≡ WordAnswer.Word word
 unfolding wordOf callsignOf locatorOf
 pack-unpack word power e =
     let r = readable word power e in
@@ -72,17 +72,17 @@ refuses-exactly word = (λ refused callsign locator power made. never refused (u
 module _ (callsign locator : List ℕ) (word : ℕ) where
   abbrev pub Promised : MessageAnswer → List ℕ → List ℕ → Type 0
   Promised answer its-callsign its-locator =
-      (answer ≡ unpacked callsign locator word)
-      × ((messageNumbers answer ≡ messageNumbers (unpacked callsign locator word))
+      (answer ≡ wordUnpacked callsign locator word)
+      × ((messageNumbers answer ≡ messageNumbers (wordUnpacked callsign locator word))
       × ((its-callsign ≡ callsignAfterUnpack callsign locator word)
       × ((its-locator ≡ locatorAfterUnpack callsign locator word)
       × (PacksBack answer word its-callsign its-locator × UnpackRefusedExactly answer word callsign locator))))
 
   -- With the lengths right the answer is the word's.
-  exactly : UnpackRefusedExactly (unpacked callsign locator word) word callsign locator
+  exactly : UnpackRefusedExactly (wordUnpacked callsign locator word) word callsign locator
   exactly six four = rw (unpacked-read callsign locator word (right-lengths callsign locator six four)) (refuses-exactly word)
 
-  pub promised-refused : (f : Refusal) → unpacked callsign locator word ≡ MessageAnswer.Refused f → Promised (MessageAnswer.Refused f) callsign locator
+  pub promised-refused : (f : Refusal) → wordUnpacked callsign locator word ≡ MessageAnswer.Refused f → Promised (MessageAnswer.Refused f) callsign locator
   unfolding callsignAfterUnpack locatorAfterUnpack contentAfter
   promised-refused f e = (sym e, (ap messageNumbers (sym e), (rw e, (rw e, (tt, rw e at exactly)))))
 

@@ -20,8 +20,8 @@ rightLengths callsign locator = eqb callsign 6 && eqb locator 4
 -- ---- A message of legal characters and power
 
 -- "If several apply, the order is: triple 1, 2, 3"; "Within one number, the lowest place."
-unfoldable pub checked : List ℕ → List ℕ → ℕ → CheckAnswer
-checked callsign locator power =
+unfoldable pub messageChecked : List ℕ → List ℕ → ℕ → CheckAnswer
+messageChecked callsign locator power =
     let bad = firstBad 0 (callsign ++ locator) in
     cond (not (rightLengths (length callsign) (length locator))) (CheckAnswer.Refused (refusal wrongLength 0))
     (cond (ltb bad 10) (CheckAnswer.Refused (refusal badCharacter bad))
@@ -34,8 +34,8 @@ unfoldable pub wordIfLegal : CheckAnswer → ℕ → WordAnswer
 wordIfLegal CheckAnswer.Legal word = WordAnswer.Word word
 wordIfLegal (CheckAnswer.Refused f) word = WordAnswer.Refused f
 
-unfoldable pub packed : List ℕ → List ℕ → ℕ → WordAnswer
-packed callsign locator power = wordIfLegal (checked callsign locator power) (wordOf callsign locator power)
+unfoldable pub messagePacked : List ℕ → List ℕ → ℕ → WordAnswer
+messagePacked callsign locator power = wordIfLegal (messageChecked callsign locator power) (wordOf callsign locator power)
 
 -- ---- From a word to its message: "word 1 (if a buffer is lent), 4, 5, 6"
 
@@ -48,8 +48,8 @@ wordMessage word =
     (MessageAnswer.Power (powerPart word - 64))))
 
 -- The answer, given what the lent callsign and locator hold.
-unfoldable pub unpacked : List ℕ → List ℕ → ℕ → MessageAnswer
-unpacked callsign locator word = cond (not (rightLengths (length callsign) (length locator))) (MessageAnswer.Refused (refusal wrongLength 0)) (wordMessage word)
+unfoldable pub wordUnpacked : List ℕ → List ℕ → ℕ → MessageAnswer
+wordUnpacked callsign locator word = cond (not (rightLengths (length callsign) (length locator))) (MessageAnswer.Refused (refusal wrongLength 0)) (wordMessage word)
 
 -- What a lent buffer holds after the answer: what it held where that is a refusal, else the characters.
 unfoldable pub contentAfter : MessageAnswer → List ℕ → List ℕ → List ℕ
@@ -58,11 +58,11 @@ contentAfter (MessageAnswer.Refused f) before characters = before
 
 -- What the lent callsign then holds.
 unfoldable pub callsignAfterUnpack : List ℕ → List ℕ → ℕ → List ℕ
-callsignAfterUnpack callsign locator word = contentAfter (unpacked callsign locator word) callsign (callsignOf word)
+callsignAfterUnpack callsign locator word = contentAfter (wordUnpacked callsign locator word) callsign (callsignOf word)
 
 -- What the lent locator then holds.
 unfoldable pub locatorAfterUnpack : List ℕ → List ℕ → ℕ → List ℕ
-locatorAfterUnpack callsign locator word = contentAfter (unpacked callsign locator word) locator (locatorOf word)
+locatorAfterUnpack callsign locator word = contentAfter (wordUnpacked callsign locator word) locator (locatorOf word)
 
 -- ---- The result numbers of each answer: 0 where it has none
 

@@ -5,7 +5,7 @@ use mathlib.Core.Path.{_≡_}
 use mathlib.Core.Logic.{_↔_}
 use mathlib.Core.List.{List}
 use lib.ListN.{length}
-use Rattle.message.specs.Answer.{packed, wordMessage}
+use Rattle.message.specs.Answer.{messagePacked, wordMessage}
 use Rattle.message.specs.Word.{callsignOf, locatorOf}
 use Rattle.message.specs.declared.WordAnswer.{WordAnswer}
 use Rattle.message.specs.declared.MessageAnswer.{MessageAnswer}
@@ -24,7 +24,7 @@ UnpacksBack (WordAnswer.Refused f) callsign locator power = Unit
 
 -- What was read packs back: the callsign and locator with the answer's power, where it has one, have the word.
 abbrev pub PacksBack : MessageAnswer → ℕ → List ℕ → List ℕ → Type 0
-PacksBack (MessageAnswer.Power p) word callsign locator = packed callsign locator p ≡ WordAnswer.Word word
+PacksBack (MessageAnswer.Power p) word callsign locator = messagePacked callsign locator p ≡ WordAnswer.Word word
 PacksBack (MessageAnswer.Refused f) word callsign locator = Unit
 
 -- The answer is a refusal.
@@ -39,7 +39,7 @@ MessageRefused (MessageAnswer.Refused f) = Unit
 -- No message has this word. Lists of numbers that are no bytes and powers that are no u32 are never legal, so that nothing is added by
 -- naming them here.
 abbrev pub NeverPacked : ℕ → Type 0
-NeverPacked word = (callsign locator : List ℕ) (power : ℕ) → packed callsign locator power ≡ WordAnswer.Word word → ⊥
+NeverPacked word = (callsign locator : List ℕ) (power : ℕ) → messagePacked callsign locator power ≡ WordAnswer.Word word → ⊥
 
 -- With a callsign of six bytes and a locator of four lent, the answer is a refusal exactly where no message has the word.
 abbrev pub UnpackRefusedExactly : MessageAnswer → ℕ → List ℕ → List ℕ → Type 0

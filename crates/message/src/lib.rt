@@ -3,7 +3,7 @@ pub mod character;
 mod word;
 
 ghost use mathlib.Core.Path.{_≡_};
-ghost use Rattle.message.specs.Answer.{rightLengths, checked, packed, unpacked, callsignAfterUnpack, locatorAfterUnpack, checkNumbers, wordNumbers, messageNumbers};
+ghost use Rattle.message.specs.Answer.{rightLengths, messageChecked, messagePacked, wordUnpacked, callsignAfterUnpack, locatorAfterUnpack, checkNumbers, wordNumbers, messageNumbers};
 ghost use Rattle.message.specs.RoundTrip.{UnpacksBack, PacksBack, UnpackRefusedExactly};
 use refusal::BAD_CHARACTER;
 use refusal::BAD_POWER;
@@ -38,8 +38,8 @@ pub fn right_lengths(callsign: usize, locator: usize) -> bool
 
 // Whether a message is legal: its lengths, its characters and its power.
 pub fn check(callsign: &[u8], locator: &[u8], power: u32) -> CheckAnswer
-    ensures answer { λ r. ⌜ r ≡ checked (now (callsign .entry)) (now (locator .entry)) power ⌝ }
-    ensures numbers { λ r. ⌜ checkNumbers r ≡ checkNumbers (checked (now (callsign .entry)) (now (locator .entry)) power) ⌝ }
+    ensures answer { λ r. ⌜ r ≡ messageChecked (now (callsign .entry)) (now (locator .entry)) power ⌝ }
+    ensures numbers { λ r. ⌜ checkNumbers r ≡ checkNumbers (messageChecked (now (callsign .entry)) (now (locator .entry)) power) ⌝ }
 {
     if !right_lengths(callsign.len(), locator.len()) {
         return CheckAnswer::Refused(Refusal {
@@ -65,9 +65,9 @@ pub fn check(callsign: &[u8], locator: &[u8], power: u32) -> CheckAnswer
 
 // The word of a message.
 pub fn pack(callsign: &[u8], locator: &[u8], power: u32) -> WordAnswer
-    ensures answer { λ r. ⌜ r ≡ packed (now (callsign .entry)) (now (locator .entry)) power ⌝ }
-    ensures numbers { λ r. ⌜ wordNumbers r ≡ wordNumbers (packed (now (callsign .entry)) (now (locator .entry)) power) ⌝ }
-    ensures reads_back { λ r. ⌜ UnpacksBack r (now (callsign .entry)) (now (locator .entry)) power ⌝ }
+    ensures answer { λ r. ⌜ r ≡ messagePacked (now (callsign .entry)) (now (locator .entry)) power ⌝ }
+    ensures numbers { λ r. ⌜ wordNumbers r ≡ wordNumbers (messagePacked (now (callsign .entry)) (now (locator .entry)) power) ⌝ }
+    ensures unpacks_back { λ r. ⌜ UnpacksBack r (now (callsign .entry)) (now (locator .entry)) power ⌝ }
 {
     let checked = check(callsign, locator, power);
     if let CheckAnswer::Refused(refusal) = checked {
@@ -80,8 +80,8 @@ pub fn pack(callsign: &[u8], locator: &[u8], power: u32) -> WordAnswer
 
 // The message of a word: its callsign and locator are written, its power is the answer.
 pub fn unpack(word: u64, callsign: &mut [u8], locator: &mut [u8]) -> MessageAnswer
-    ensures answer { λ r. ⌜ r ≡ unpacked (now (callsign .entry)) (now (locator .entry)) word ⌝ }
-    ensures numbers { λ r. ⌜ messageNumbers r ≡ messageNumbers (unpacked (now (callsign .entry)) (now (locator .entry)) word) ⌝ }
+    ensures answer { λ r. ⌜ r ≡ wordUnpacked (now (callsign .entry)) (now (locator .entry)) word ⌝ }
+    ensures numbers { λ r. ⌜ messageNumbers r ≡ messageNumbers (wordUnpacked (now (callsign .entry)) (now (locator .entry)) word) ⌝ }
     ensures callsign_after { λ _. ⌜ now (callsign .exit) ≡ callsignAfterUnpack (now (callsign .entry)) (now (locator .entry)) word ⌝ }
     ensures locator_after { λ _. ⌜ now (locator .exit) ≡ locatorAfterUnpack (now (callsign .entry)) (now (locator .entry)) word ⌝ }
     ensures packs_back { λ r. ⌜ PacksBack r word (now (callsign .exit)) (now (locator .exit)) ⌝ }

@@ -13,7 +13,7 @@ use Rattle.frame.proofs.SymbolLaws.{none-large}
 use Rattle.distance.specs.Prefixes.{liveCount}
 use Rattle.distance.specs.Nearest.{fewest, sharing, nearestWord}
 use Rattle.distance.proofs.NearestLaws.{fewest-below, fewest-reached, fewest-is, fewest-only, sharing-only, nearest-only, only-nearest, sharing-two, two-sharing}
-use Rattle.repair.specs.Answer.{nearestWith, nearestOf, nearestWithin, searched, repaired, repairNumbers}
+use Rattle.repair.specs.Answer.{nearestWith, nearestOf, nearestWithin, searched, frameRepaired, repairNumbers}
 use Rattle.repair.specs.Demand.{Bounds, IsNearest, NoneWithin, Shared, AsDemanded}
 use Rattle.repair.specs.declared.Nearest.{Nearest}
 use Rattle.repair.specs.declared.RepairAnswer.{RepairAnswer}
@@ -40,8 +40,8 @@ module _ (frame : List ℕ) (limit budget : ℕ) where
 
   -- ---- Where the symbols, the limit and the budget are as they should be
 
-  pub repaired-searched : RightSymbols frame → Bounds limit budget → repaired frame limit budget ≡ searched frame limit budget
-  unfolding repaired
+  pub repaired-searched : RightSymbols frame → Bounds limit budget → frameRepaired frame limit budget ≡ searched frame limit budget
+  unfolding frameRepaired
   repaired-searched right bounds = rw (eq-eqb (length frame) 162 (right .right-length), no-bad-bound limit budget bounds, none-large frame right)
 
   -- ---- One law for each case
@@ -189,7 +189,7 @@ module _ (frame : List ℕ) (limit budget : ℕ) where
 
   -- ---- The demand
 
-  pub demanded : AsDemanded frame limit budget (repaired frame limit budget)
+  pub demanded : AsDemanded frame limit budget (frameRepaired frame limit budget)
   unfolding repairNumbers
   demanded right bounds =
       rw (repaired-searched right bounds)

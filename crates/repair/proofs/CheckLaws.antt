@@ -13,7 +13,7 @@ use Rattle.refusal.specs.Refusals.{refusal, wrongLength, symbolTooLarge, badBou
 use Rattle.frame.specs.Symbols.{RightSymbols}
 use Rattle.frame.specs.Answer.{isSymbol, firstLarge}
 use Rattle.frame.proofs.SymbolLaws.{symbols-of-test}
-use Rattle.repair.specs.Answer.{firstBadBound, searched, repaired, repairNumbers}
+use Rattle.repair.specs.Answer.{firstBadBound, searched, frameRepaired, repairNumbers}
 use Rattle.repair.specs.Demand.{Bounds, FirstLargeAt, AsChecked}
 use Rattle.repair.specs.declared.RepairAnswer.{RepairAnswer}
 use Rattle.repair.proofs.AnswerLaws.{number-same, repaired-searched, searched-refusal}
@@ -55,23 +55,23 @@ module _ (frame : List ℕ) (limit budget : ℕ) where
   abbrev BadBudget : Type 0
   BadBudget = (limit ≤ 12) × ((budget ≡ 0) ⊎ (65_536 < budget))
 
-  pub repaired-length : (length frame ≡ 162 → ⊥) → repaired frame limit budget ≡ RepairAnswer.Refused (refusal wrongLength 0)
-  unfolding repaired
+  pub repaired-length : (length frame ≡ 162 → ⊥) → frameRepaired frame limit budget ≡ RepairAnswer.Refused (refusal wrongLength 0)
+  unfolding frameRepaired
   repaired-length other = rw (ne-eqb (length frame) 162 other)
 
   module _ (long : length frame ≡ 162) where
-    pub repaired-bound : firstBadBound limit budget < 2 → repaired frame limit budget ≡ RepairAnswer.Refused (refusal badBound (firstBadBound limit budget))
-    unfolding repaired
+    pub repaired-bound : firstBadBound limit budget < 2 → frameRepaired frame limit budget ≡ RepairAnswer.Refused (refusal badBound (firstBadBound limit budget))
+    unfolding frameRepaired
     repaired-bound bad = rw (eq-eqb (length frame) 162 long, lt-ltb (firstBadBound limit budget) 2 bad)
 
     pub repaired-large : 2 ≤ firstBadBound limit budget → firstLarge frame < 162
-        → repaired frame limit budget ≡ RepairAnswer.Refused (refusal symbolTooLarge (firstLarge frame))
-    unfolding repaired
+        → frameRepaired frame limit budget ≡ RepairAnswer.Refused (refusal symbolTooLarge (firstLarge frame))
+    unfolding frameRepaired
     repaired-large good large =
         rw (eq-eqb (length frame) 162 long, le-ltb (firstBadBound limit budget) 2 good, lt-ltb (firstLarge frame) 162 large)
 
   bound-refused : (place : ℕ) → firstBadBound limit budget ≡ place → place < 2 → length frame ≡ 162
-      → repaired frame limit budget ≡ RepairAnswer.Refused (refusal badBound place)
+      → frameRepaired frame limit budget ≡ RepairAnswer.Refused (refusal badBound place)
   bound-refused place e h long =
       repaired-bound long (omega arith) ∙ ap (λ (p : ℕ). RepairAnswer.Refused (refusal badBound p)) e
 
@@ -82,7 +82,7 @@ module _ (frame : List ℕ) (limit budget : ℕ) where
       → (length frame ≡ 162 → BadBudget → P (RepairAnswer.Refused (refusal badBound 1)))
       → (length frame ≡ 162 → Bounds limit budget → FirstLargeAt frame (firstLarge frame) → P (RepairAnswer.Refused (refusal symbolTooLarge (firstLarge frame))))
       → (RightSymbols frame → Bounds limit budget → P (searched frame limit budget))
-      → P (repaired frame limit budget)
+      → P (frameRepaired frame limit budget)
   by-check P short limit-bad budget-bad large right =
       equal-or-not (length frame) 162
       (λ long.
@@ -95,16 +95,16 @@ module _ (frame : List ℕ) (limit budget : ℕ) where
       (λ other. rw (repaired-length other) (short other))
     where
       at-bound : length frame ≡ 162 → (place : ℕ) → firstBadBound limit budget ≡ place → place < 2 → P (RepairAnswer.Refused (refusal badBound place))
-          → P (repaired frame limit budget)
+          → P (frameRepaired frame limit budget)
       at-bound long place e h p = rw (bound-refused place e h long) p
 
-      bad-budget : length frame ≡ 162 → BadBudget → P (repaired frame limit budget)
+      bad-budget : length frame ≡ 162 → BadBudget → P (frameRepaired frame limit budget)
       bad-budget long bad = at-bound long 1 (bad-budget-next limit budget (bad .0) (bad .1)) (omega arith) (budget-bad long bad)
 
       bounded : limit ≤ 12 → 1 ≤ budget → budget ≤ 65_536 → Bounds limit budget
       bounded h k l = record { limit-to-12 = h; budget-from-1 = k; budget-to-65536 = l }
 
-      checked-bounds : length frame ≡ 162 → Bounds limit budget → P (repaired frame limit budget)
+      checked-bounds : length frame ≡ 162 → Bounds limit budget → P (frameRepaired frame limit budget)
       checked-bounds long bounds =
           below-or-not (firstLarge frame) 162
           (λ is-large.
@@ -119,7 +119,7 @@ module _ (frame : List ℕ) (limit budget : ℕ) where
   not-searched : {Q : Type 0} (f : Refusal) → f .number < 16 → searched frame limit budget ≡ RepairAnswer.Refused f → Q
   not-searched f h e = absurd (omega (arith, searched-refusal frame limit budget f e))
 
-  length-told : repaired frame limit budget ≡ RepairAnswer.Refused (refusal wrongLength 0) → length frame ≡ 162 → ⊥
+  length-told : frameRepaired frame limit budget ≡ RepairAnswer.Refused (refusal wrongLength 0) → length frame ≡ 162 → ⊥
   length-told =
       by-check (λ a. a ≡ RepairAnswer.Refused (refusal wrongLength 0) → length frame ≡ 162 → ⊥)
       (λ other e. other)
@@ -128,7 +128,7 @@ module _ (frame : List ℕ) (limit budget : ℕ) where
       (λ long bounds first. differs _ _ (λ same. omega (arith, same .0)))
       (λ right bounds. not-searched _ (omega arith))
 
-  limit-told : repaired frame limit budget ≡ RepairAnswer.Refused (refusal badBound 0) → (length frame ≡ 162) × (12 < limit)
+  limit-told : frameRepaired frame limit budget ≡ RepairAnswer.Refused (refusal badBound 0) → (length frame ≡ 162) × (12 < limit)
   limit-told =
       by-check (λ a. a ≡ RepairAnswer.Refused (refusal badBound 0) → (length frame ≡ 162) × (12 < limit))
       (λ other. differs _ _ (λ same. omega (arith, same .0)))
@@ -137,7 +137,7 @@ module _ (frame : List ℕ) (limit budget : ℕ) where
       (λ long bounds first. differs _ _ (λ same. omega (arith, same .0)))
       (λ right bounds. not-searched _ (omega arith))
 
-  budget-told : repaired frame limit budget ≡ RepairAnswer.Refused (refusal badBound 1) → (length frame ≡ 162) × BadBudget
+  budget-told : frameRepaired frame limit budget ≡ RepairAnswer.Refused (refusal badBound 1) → (length frame ≡ 162) × BadBudget
   budget-told =
       by-check (λ a. a ≡ RepairAnswer.Refused (refusal badBound 1) → (length frame ≡ 162) × BadBudget)
       (λ other. differs _ _ (λ same. omega (arith, same .0)))
@@ -146,7 +146,7 @@ module _ (frame : List ℕ) (limit budget : ℕ) where
       (λ long bounds first. differs _ _ (λ same. omega (arith, same .0)))
       (λ right bounds. not-searched _ (omega arith))
 
-  symbol-told : (place : ℕ) → repaired frame limit budget ≡ RepairAnswer.Refused (refusal symbolTooLarge place)
+  symbol-told : (place : ℕ) → frameRepaired frame limit budget ≡ RepairAnswer.Refused (refusal symbolTooLarge place)
       → (length frame ≡ 162) × (Bounds limit budget × FirstLargeAt frame place)
   symbol-told place =
       by-check (λ a. a ≡ RepairAnswer.Refused (refusal symbolTooLarge place) → (length frame ≡ 162) × (Bounds limit budget × FirstLargeAt frame place))
@@ -157,7 +157,7 @@ module _ (frame : List ℕ) (limit budget : ℕ) where
       (λ right bounds. not-searched _ (omega arith))
 
   symbol-refused : (place : ℕ) → (length frame ≡ 162) × (Bounds limit budget × FirstLargeAt frame place)
-      → repaired frame limit budget ≡ RepairAnswer.Refused (refusal symbolTooLarge place)
+      → frameRepaired frame limit budget ≡ RepairAnswer.Refused (refusal symbolTooLarge place)
   symbol-refused place (long, (bounds, first)) =
       below-or-not (firstLarge frame) 162
       (λ large.
@@ -167,7 +167,7 @@ module _ (frame : List ℕ) (limit budget : ℕ) where
       (λ none. absurd (omega (arith, symbols-of-test frame long none .symbols-to-3 place (omega (arith, first .within)), first .large)))
 
   -- A refusal's number is above 0.
-  pub refusal-number : (f : Refusal) → repaired frame limit budget ≡ RepairAnswer.Refused f → 0 < f .number
+  pub refusal-number : (f : Refusal) → frameRepaired frame limit budget ≡ RepairAnswer.Refused f → 0 < f .number
   unfolding repairNumbers
   refusal-number f =
       by-check (λ a. a ≡ RepairAnswer.Refused f → 0 < f .number)
@@ -177,7 +177,7 @@ module _ (frame : List ℕ) (limit budget : ℕ) where
       (λ long bounds first e. omega (arith, number-same _ _ e))
       (λ right bounds e. omega (arith, searched-refusal frame limit budget f e))
 
-  pub checked : AsChecked frame limit budget (repaired frame limit budget)
+  pub checked : AsChecked frame limit budget (frameRepaired frame limit budget)
   checked =
       record {
         wrong-length = (length-told, repaired-length);

@@ -18,7 +18,7 @@ use Rattle.distance.specs.Nearest.{OnlyNearest}
 use Rattle.distance.proofs.Bits.{differences-sym, differences-counted}
 use Rattle.distance.proofs.PrefixLaws.{word-disagreements}
 use Rattle.distance.proofs.ZeroWord.{flipped-most, others-further}
-use Rattle.repair.specs.Answer.{nearestWith, repaired}
+use Rattle.repair.specs.Answer.{nearestWith, frameRepaired}
 use Rattle.repair.specs.Demand.{Bounds, IsNearest, flippedAt, flips, givenBack, TwoFlipsRepaired}
 use Rattle.repair.specs.declared.RepairAnswer.{RepairAnswer}
 use Rattle.repair.proofs.AnswerLaws.{demanded}
@@ -62,11 +62,11 @@ module _ (word : ℕ) (frame : List ℕ) where
 
     -- A budget from 569 on is enough.
     sent-repaired : (budget : ℕ) → 569 ≤ budget → budget ≤ 65_536 → RightSymbols frame
-        → repaired frame 2 budget ≡ RepairAnswer.Word (givenBack word frame 2)
+        → frameRepaired frame 2 budget ≡ RepairAnswer.Word (givenBack word frame 2)
     sent-repaired budget enough most right =
         let bounds : Bounds 2 budget = record { limit-to-12 = omega arith; budget-from-1 = omega arith; budget-to-65536 = most } in
         demanded frame 2 budget right bounds .answered (givenBack word frame 2) .1 (omega (arith, live-most), given-back-is)
 
-pub two-flips-repaired : (frame : List ℕ) (limit budget : ℕ) → TwoFlipsRepaired frame limit budget (repaired frame limit budget)
+pub two-flips-repaired : (frame : List ℕ) (limit budget : ℕ) → TwoFlipsRepaired frame limit budget (frameRepaired frame limit budget)
 two-flips-repaired frame limit budget two enough right word h few =
     rw (two, enough) (sent-repaired word frame h few 16_000 (omega arith) (omega arith) right)

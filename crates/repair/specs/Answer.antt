@@ -47,8 +47,8 @@ searched frame limit budget =
     cond (ltb budget (liveCount (receivedBits frame) limit)) (RepairAnswer.Refused (refusal overBudget 0)) (nearestWithin frame limit)
 
 -- "repair 1, 15, 7, 16, 17, 18"
-unfoldable pub repaired : List ℕ → ℕ → ℕ → RepairAnswer
-repaired frame limit budget =
+unfoldable pub frameRepaired : List ℕ → ℕ → ℕ → RepairAnswer
+frameRepaired frame limit budget =
     cond (not (eqb (length frame) 162)) (RepairAnswer.Refused (refusal wrongLength 0))
     (cond (ltb (firstBadBound limit budget) 2) (RepairAnswer.Refused (refusal badBound (firstBadBound limit budget)))
     (cond (ltb (firstLarge frame) 162) (RepairAnswer.Refused (refusal symbolTooLarge (firstLarge frame)))

@@ -6,7 +6,7 @@ mod prefix;
 mod search;
 
 ghost use mathlib.Core.Path.{_≡_};
-ghost use Rattle.repair.specs.Answer.{firstBadBound, repaired, repairNumbers};
+ghost use Rattle.repair.specs.Answer.{firstBadBound, frameRepaired, repairNumbers};
 ghost use Rattle.repair.specs.Demand.{AsChecked, AsDemanded, TwoFlipsRepaired};
 ghost use Rattle.repair.specs.Search.{answerOf};
 use refusal::BAD_BOUND;
@@ -81,8 +81,8 @@ fn answer(found: Found, sync_wrong: u32, limit: u32, budget: u32) -> RepairAnswe
 // The one word that is nearest to the symbols of a frame, if it is within the limit and the live count
 // within the budget; else why not.
 pub fn repair(frame: &[u8], limit: u32, budget: u32) -> RepairAnswer
-    ensures answer { λ r. ⌜ r ≡ repaired (now (frame .entry)) limit budget ⌝ }
-    ensures numbers { λ r. ⌜ repairNumbers r ≡ repairNumbers (repaired (now (frame .entry)) limit budget) ⌝ }
+    ensures answer { λ r. ⌜ r ≡ frameRepaired (now (frame .entry)) limit budget ⌝ }
+    ensures numbers { λ r. ⌜ repairNumbers r ≡ repairNumbers (frameRepaired (now (frame .entry)) limit budget) ⌝ }
     ensures checked { λ r. ⌜ AsChecked (now (frame .entry)) limit budget r ⌝ }
     ensures demanded { λ r. ⌜ AsDemanded (now (frame .entry)) limit budget r ⌝ }
     ensures two_flips { λ r. ⌜ TwoFlipsRepaired (now (frame .entry)) limit budget r ⌝ }

@@ -10,7 +10,7 @@ use borrow.Author.Tests.{not-false, le-leb, lt-leb, leb-false, lt-ltb, le-ltb, l
 use Rattle.basics.proofs.Choice.{cond-passed, cond-both}
 use Rattle.refusal.specs.declared.Refusal.{Refusal}
 use Rattle.refusal.specs.Refusals.{refusal, wrongLength, extendedTelemetry, badPositionNumber, badSensorNumber, outOfRange}
-use Rattle.message.specs.Answer.{rightLengths, unpacked, contentAfter, callsignAfterUnpack, locatorAfterUnpack, messageNumbers}
+use Rattle.message.specs.Answer.{rightLengths, wordUnpacked, contentAfter, callsignAfterUnpack, locatorAfterUnpack, messageNumbers}
 use Rattle.message.specs.declared.MessageAnswer.{MessageAnswer}
 use Rattle.message.proofs.AnswerLaws.{refused-no-power, unpacked-read}
 use Rattle.u4b.specs.Answer.{payloadMessage, payloadRead}
@@ -94,11 +94,11 @@ module _ (callsign locator : List ℕ) (power : ℕ) where
   read-payload p e = rw e
 
 module _ (callsign locator : List ℕ) (word : ℕ) (right : rightLengths (length callsign) (length locator) ≡ true) where
-  pub word-refused : (f : Refusal) → unpacked callsign locator word ≡ MessageAnswer.Refused f → wordTelemetry word ≡ TelemetryAnswer.Refused f
+  pub word-refused : (f : Refusal) → wordUnpacked callsign locator word ≡ MessageAnswer.Refused f → wordTelemetry word ≡ TelemetryAnswer.Refused f
   unfolding wordTelemetry telemetryIfMessage
   word-refused f e = rw (sym (unpacked-read callsign locator word right) ∙ e)
 
-  pub word-read : (power : ℕ) → unpacked callsign locator word ≡ MessageAnswer.Power power
+  pub word-read : (power : ℕ) → wordUnpacked callsign locator word ≡ MessageAnswer.Power power
       → wordTelemetry word ≡ telemetryRead (callsignAfterUnpack callsign locator word) (locatorAfterUnpack callsign locator word) power
   unfolding wordTelemetry telemetryIfMessage callsignAfterUnpack locatorAfterUnpack contentAfter
   word-read power e = rw (e, sym (unpacked-read callsign locator word right) ∙ e)

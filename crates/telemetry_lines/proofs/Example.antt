@@ -6,7 +6,7 @@ use Rattle.basics.proofs.ListLaws.{sameList-equal}
 use Rattle.radix.specs.Numeral.{count, numberOf, numberFrom, digitsOf}
 use Rattle.power.specs.Powers.{powers, powerIndex, legalPower}
 use Rattle.message.specs.Character.{value, callsignSets, locatorSets, setAt, legalAt, digitAt, overPlaces, digitsFrom}
-use Rattle.message.specs.Answer.{rightLengths, checked}
+use Rattle.message.specs.Answer.{rightLengths, messageChecked}
 use Rattle.u4b.specs.Channel.{isFirstCharacter}
 use Rattle.u4b.specs.Alphabet.{takenAt, firstNotTaken}
 use Rattle.u4b.specs.Characters.{upperRadices, upperDigits, upperOf, lowerRadices, lowerOf}
@@ -22,7 +22,7 @@ use Rattle.telemetry_lines.specs.Example.{linesOf, exampleInput, example
 pub example-shown : outputOf exampleInput ≡ exampleOutput
 unfolding bytes firstFailing sameList count numberOf numberFrom digitsOf powers indexIn powerIndex legalPower value callsignSets
     locatorSets setAt legalAt digitAt overPlaces digitsFrom
-    rightLengths checked isFirstCharacter metres degrees millivolts knots positionRadices sensorRadices readingFrom readingOf
+    rightLengths messageChecked isFirstCharacter metres degrees millivolts knots positionRadices sensorRadices readingFrom readingOf
     takenAt firstNotTaken upperRadices upperDigits upperOf lowerRadices lowerOf payloadOf messagePayload ifLegal payloadRead
     numbersTelemetry basicTelemetry telemetryIfPayload telemetryRead digitCharacter decimalOf decimalText integerText lineOf header readingText refusalText answerText hasForm callsignIn locatorIn powerIn lineAnswer lineText
     lineAfter outputAfter lastText outputOf linesOf exampleInput exampleOutput

@@ -10,7 +10,7 @@ use borrow.Author.Tests.{not-false, lt-ltb, le-ltb, ltb-false}
 use Rattle.basics.proofs.Choice.{cond-passed, cond-both}
 use Rattle.refusal.specs.declared.Refusal.{Refusal}
 use Rattle.refusal.specs.Refusals.{refusal, wrongLength, notTelemetry, outOfRange}
-use Rattle.message.specs.Answer.{rightLengths, checked, messageNumbers}
+use Rattle.message.specs.Answer.{rightLengths, messageChecked, messageNumbers}
 use Rattle.message.specs.declared.CheckAnswer.{CheckAnswer}
 use Rattle.message.specs.declared.MessageAnswer.{MessageAnswer}
 use Rattle.message.proofs.AnswerLaws.{Legal, legal-of-checked, checked-nonzero, refused-no-power}
@@ -69,11 +69,11 @@ module _ (first : FirstCharacters) (callsign locator : List ℕ) (payload : Payl
 -- ---- The cases of reading
 
 module _ (first : FirstCharacters) (callsign locator : List ℕ) (power : ℕ) where
-  pub read-illegal : (f : Refusal) → checked callsign locator power ≡ CheckAnswer.Refused f → payloadRead first callsign locator power ≡ PayloadAnswer.Refused f
+  pub read-illegal : (f : Refusal) → messageChecked callsign locator power ≡ CheckAnswer.Refused f → payloadRead first callsign locator power ≡ PayloadAnswer.Refused f
   unfolding payloadRead ifLegal
   read-illegal f e = rw e
 
-  module _ (legal : checked callsign locator power ≡ CheckAnswer.Legal) where
+  module _ (legal : messageChecked callsign locator power ≡ CheckAnswer.Legal) where
     read-legal : payloadRead first callsign locator power ≡ messagePayload first callsign locator power
     unfolding payloadRead ifLegal
     read-legal = rw legal
@@ -100,7 +100,7 @@ pub record Readable (first : FirstCharacters) (callsign locator : List ℕ) (pow
 pub readable : (first : FirstCharacters) (callsign locator : List ℕ) (power : ℕ) (p : Payload)
     → payloadRead first callsign locator power ≡ PayloadAnswer.Payload p → Readable first callsign locator power p
 unfolding messagePayload
-readable first callsign locator power p e = go (checked callsign locator power) refl
+readable first callsign locator power p e = go (messageChecked callsign locator power) refl
   where
     taken-of : messagePayload first callsign locator power ≡ PayloadAnswer.Payload p
         → (6 ≤ firstNotTaken (lettersAlone first) callsign) × (p ≡ payloadOf callsign locator power)
@@ -108,7 +108,7 @@ readable first callsign locator power p e = go (checked callsign locator power) 
         let tests = cond-passed (ltb (firstNotTaken (lettersAlone first) callsign) 6) m (refused-no-payload _ p) in
         (ltb-false _ _ (tests .0), cc)
 
-    go : (answer : CheckAnswer) → checked callsign locator power ≡ answer → Readable first callsign locator power p
+    go : (answer : CheckAnswer) → messageChecked callsign locator power ≡ answer → Readable first callsign locator power p
     go CheckAnswer.Legal c =
         let (taken, same) = taken-of (sym (read-legal first callsign locator power c) ∙ e) in
         record { legal = legal-of-checked callsign locator power c; taken = taken; is-payload = same }
@@ -140,6 +140,6 @@ pub refused-nonzero : (first : FirstCharacters) (callsign locator : List ℕ) (p
     → payloadRead first callsign locator power ≡ PayloadAnswer.Refused f → f .number ≡ 0 → ⊥
 unfolding Nonzero payloadRead messagePayload
 refused-nonzero first callsign locator power =
-    nonzero-if (checked callsign locator power) (messagePayload first callsign locator power) (checked-nonzero callsign locator power)
+    nonzero-if (messageChecked callsign locator power) (messagePayload first callsign locator power) (checked-nonzero callsign locator power)
     (cond-both Nonzero (ltb (firstNotTaken (lettersAlone first) callsign) 6) (λ f e z. let n : notTelemetry ≡ f .number = cc in omega arith)
     (λ f e z. refused-no-payload f _ (sym e)))

@@ -5,7 +5,7 @@ use Prim.Native.Nat.{ℕ, _<_}
 use native.Mathlib.Nat.{mod-eq-of-lt}
 use native.Mathlib.Omega.{arith}
 use mathlib.Core.List.{List}
-use Rattle.message.specs.Answer.{checked, contentAfter, messageNumbers}
+use Rattle.message.specs.Answer.{messageChecked, contentAfter, messageNumbers}
 use Rattle.message.specs.declared.CheckAnswer.{CheckAnswer}
 use Rattle.message.specs.declared.MessageAnswer.{MessageAnswer}
 use Rattle.message.proofs.AnswerLaws.{right-lengths, legal-whole, checked-legal}
@@ -28,7 +28,7 @@ whole p h k = rw (upper-count, lower-count, mod-eq-of-lt h, mod-eq-of-lt k)
 
 module _ (first : FirstCharacters) (p : Payload) (power : ℕ) (w : Writable first p power) where
   -- What is written is a message of legal characters and power.
-  written-legal : checked (payloadCallsign p) (payloadLocator p) (powerWith (p .lower)) ≡ CheckAnswer.Legal
+  written-legal : messageChecked (payloadCallsign p) (payloadLocator p) (powerWith (p .lower)) ≡ CheckAnswer.Legal
   unfolding payloadCallsign payloadLocator
   written-legal =
       let six = callsignWith-length (p .channel) (p .upper) in

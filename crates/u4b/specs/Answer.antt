@@ -6,7 +6,7 @@ use mathlib.Core.List.{List}
 use lib.Dec.{ltb}
 use lib.ListN.{length, getD}
 use Rattle.refusal.specs.Refusals.{refusal, wrongLength, notTelemetry, outOfRange}
-use Rattle.message.specs.Answer.{rightLengths, checked, contentAfter}
+use Rattle.message.specs.Answer.{rightLengths, messageChecked, contentAfter}
 use Rattle.message.specs.declared.CheckAnswer.{CheckAnswer}
 use Rattle.message.specs.declared.MessageAnswer.{MessageAnswer}
 use Rattle.u4b.specs.Channel.{isFirstCharacter, isThirdCharacter, noChannel}
@@ -75,7 +75,7 @@ ifLegal CheckAnswer.Legal answer = answer
 ifLegal (CheckAnswer.Refused f) answer = PayloadAnswer.Refused f
 
 unfoldable pub payloadRead : FirstCharacters → List ℕ → List ℕ → ℕ → PayloadAnswer
-payloadRead first callsign locator power = ifLegal (checked callsign locator power) (messagePayload first callsign locator power)
+payloadRead first callsign locator power = ifLegal (messageChecked callsign locator power) (messagePayload first callsign locator power)
 
 -- ---- The result numbers of an answer: 0 where it has none
 

@@ -11,7 +11,7 @@ use Rattle.radix.specs.Numeral.{count, numberOf, numberFrom, digitsOf}
 use Rattle.power.specs.Powers.{powers, powerIndex, powerAt, legalPower}
 use Rattle.message.specs.Character.{value, character, callsignSets, locatorSets, setAt, legalAt, digitAt, characterAt, overPlaces, digitsFrom, charactersFrom}
 use Rattle.message.specs.Word.{callsignRadices, callsignNumber, locatorNumberFrom, locatorNumber, lowerNumber}
-use Rattle.message.specs.Answer.{rightLengths, checked, messageNumbers}
+use Rattle.message.specs.Answer.{rightLengths, messageChecked, messageNumbers}
 use Rattle.u4b.specs.Channel.{isFirstCharacter}
 use Rattle.u4b.specs.Alphabet.{takenAt, firstNotTaken}
 use Rattle.u4b.specs.Characters.{upperRadices, callsignWith, upperDigits, upperOf, lowerRadices, locatorWith, powerWith, lowerOf}
@@ -36,7 +36,7 @@ agree (r ∷ rs) e =
 pub examples-agree : Agrees examples
 unfolding sameList firstFailing count numberOf numberFrom digitsOf powers indexIn powerIndex powerAt legalPower value character
     callsignSets locatorSets setAt legalAt digitAt characterAt overPlaces digitsFrom charactersFrom callsignRadices callsignNumber
-    locatorNumberFrom locatorNumber lowerNumber rightLengths checked messageNumbers isFirstCharacter takenAt firstNotTaken upperRadices
+    locatorNumberFrom locatorNumber lowerNumber rightLengths messageChecked messageNumbers isFirstCharacter takenAt firstNotTaken upperRadices
     callsignWith upperDigits upperOf lowerRadices locatorWith powerWith lowerOf payloadMessage payloadCallsign payloadLocator payloadOf
     messagePayload ifLegal payloadRead temperatureInRange inRanges firstOutOfRange altitudeCode temperatureCode voltageCode speedCode
     millivolts positionRadices positionDigits positionNumber sensorRadices sensorDigits sensorNumber payloadFrom measuredMessage

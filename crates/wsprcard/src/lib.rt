@@ -1,11 +1,11 @@
 // The card's functions for a host in C, declared in include/wsprcard.h: each is a thin layer over
 // that of its crate, with the answer's result numbers in a struct.
 ghost use mathlib.Core.Path.{_≡_};
-ghost use Rattle.message.specs.Answer.{packed, unpacked, callsignAfterUnpack, locatorAfterUnpack, wordNumbers, messageNumbers};
+ghost use Rattle.message.specs.Answer.{messagePacked, wordUnpacked, callsignAfterUnpack, locatorAfterUnpack, wordNumbers, messageNumbers};
 ghost use Rattle.message.specs.RoundTrip.{UnpacksBack, PacksBack, UnpackRefusedExactly};
 ghost use Rattle.frame.specs.Answer.{writeNumbers, wordWritten, messageWritten, frameAfterWord, frameAfterMessage, wordRead, messageRead, callsignAfterRead, locatorAfterRead};
 ghost use Rattle.frame.specs.RoundTrip.{WordReadsBack, WordWritesBack, WordRefusedExactly, NoWordRefused, MessageReadsBack, MessageWritesBack, MessageRefusedExactly};
-ghost use Rattle.repair.specs.Answer.{repaired, repairNumbers};
+ghost use Rattle.repair.specs.Answer.{frameRepaired, repairNumbers};
 ghost use Rattle.repair.specs.Demand.{AsChecked, AsDemanded, TwoFlipsRepaired};
 ghost use Rattle.telemetry.specs.Answer.{telemetryWritten, telemetryRead, telemetryNumbers, callsignAfterWrite, locatorAfterWrite};
 ghost use Rattle.telemetry.specs.RoundTrip.{TelemetryReadsBack, TelemetryWritesBack, TelemetryRefusedExactly};
@@ -175,8 +175,8 @@ fn reading_result(answer: TelemetryAnswer) -> U4bReading
 // The word of a message.
 #[no_mangle]
 pub extern "C" fn wspr_pack(callsign: &[u8], locator: &[u8], power: u32) -> WsprWord
-    ensures answer { λ r. ⌜ r ≡ wordResult (wordNumbers (packed (now (callsign .entry)) (now (locator .entry)) power)) ⌝ }
-    ensures reads_back { λ r. ⌜ UnpacksBack (wordAnswerIn r) (now (callsign .entry)) (now (locator .entry)) power ⌝ }
+    ensures answer { λ r. ⌜ r ≡ wordResult (wordNumbers (messagePacked (now (callsign .entry)) (now (locator .entry)) power)) ⌝ }
+    ensures unpacks_back { λ r. ⌜ UnpacksBack (wordAnswerIn r) (now (callsign .entry)) (now (locator .entry)) power ⌝ }
 {
     word_result(message::pack(callsign, locator, power))
 }
@@ -184,7 +184,7 @@ pub extern "C" fn wspr_pack(callsign: &[u8], locator: &[u8], power: u32) -> Wspr
 // The message of a word: its callsign and locator are written, its power is returned.
 #[no_mangle]
 pub extern "C" fn wspr_unpack(word: u64, callsign: &mut [u8], locator: &mut [u8]) -> WsprMessage
-    ensures answer { λ r. ⌜ r ≡ messageResult (messageNumbers (unpacked (now (callsign .entry)) (now (locator .entry)) word)) ⌝ }
+    ensures answer { λ r. ⌜ r ≡ messageResult (messageNumbers (wordUnpacked (now (callsign .entry)) (now (locator .entry)) word)) ⌝ }
     ensures callsign_after { λ _. ⌜ now (callsign .exit) ≡ callsignAfterUnpack (now (callsign .entry)) (now (locator .entry)) word ⌝ }
     ensures locator_after { λ _. ⌜ now (locator .exit) ≡ locatorAfterUnpack (now (callsign .entry)) (now (locator .entry)) word ⌝ }
     ensures packs_back { λ r. ⌜ PacksBack (messageAnswerIn r) word (now (callsign .exit)) (now (locator .exit)) ⌝ }
@@ -248,7 +248,7 @@ pub extern "C" fn wspr_read_message(
 // The one word that is nearest to the symbols of a frame.
 #[no_mangle]
 pub extern "C" fn wspr_repair(frame: &[u8], limit: u32, budget: u32) -> WsprRepaired
-    ensures answer { λ r. ⌜ r ≡ repairedResult (repairNumbers (repaired (now (frame .entry)) limit budget)) ⌝ }
+    ensures answer { λ r. ⌜ r ≡ repairedResult (repairNumbers (frameRepaired (now (frame .entry)) limit budget)) ⌝ }
     ensures checked { λ r. ⌜ AsChecked (now (frame .entry)) limit budget (repairAnswerIn r) ⌝ }
     ensures demanded { λ r. ⌜ AsDemanded (now (frame .entry)) limit budget (repairAnswerIn r) ⌝ }
     ensures two_flips { λ r. ⌜ TwoFlipsRepaired (now (frame .entry)) limit budget (repairAnswerIn r) ⌝ }

@@ -6,7 +6,7 @@ use Rattle.basics.proofs.ListLaws.{none-fails}
 use Rattle.power.proofs.Laws.{legal-power-end}
 use Rattle.message.specs.Character.{legalAt}
 use Rattle.message.specs.Word.{wordOf}
-use Rattle.message.specs.Answer.{checked, wordNumbers}
+use Rattle.message.specs.Answer.{messageChecked, wordNumbers}
 use Rattle.message.specs.declared.CheckAnswer.{CheckAnswer}
 use Rattle.message.specs.declared.WordAnswer.{WordAnswer}
 use Rattle.message.proofs.WordLaws.{callsignNumber-below, locatorNumber-below}
@@ -18,7 +18,7 @@ use Rattle.message.proofs.pack.Tie as tie
 
 -- Past the test the message is legal.
 is-checked : (c : tie.After-enum-told) → let a = c .before .before .before .before .before .args in
-    checked (a .callsign .now) (a .locator .now) (a .power) ≡ CheckAnswer.Legal
+    messageChecked (a .callsign .now) (a .locator .now) (a .power) ≡ CheckAnswer.Legal
 is-checked c = sym (c .before .before .check .ensures .0) ∙ c .enum-told .given .1
 
 its-legal : (c : tie.After-enum-told) → let a = c .before .before .before .before .before .args in

@@ -6,7 +6,7 @@ use native.Mathlib.Omega.{arith}
 use borrow.Author.Needs.{needs}
 use Rattle.basics.proofs.ListLaws.{none-fails}
 use Rattle.message.specs.Character.{legalAt}
-use Rattle.message.specs.Answer.{checked}
+use Rattle.message.specs.Answer.{messageChecked}
 use Rattle.message.specs.declared.CheckAnswer.{CheckAnswer}
 use Rattle.message.proofs.AnswerLaws.{Legal, legal-of-checked}
 use Rattle.u4b.specs.Answer.{payloadOf}
@@ -18,7 +18,7 @@ use Rattle.u4b.proofs.read.Tie as tie
 
 -- Past the first test the message is legal.
 is-checked : (c : tie.After-enum-told) → let a = c .before .before .before .before .before .args in
-    checked (a .callsign .now) (a .locator .now) (a .power) ≡ CheckAnswer.Legal
+    messageChecked (a .callsign .now) (a .locator .now) (a .power) ≡ CheckAnswer.Legal
 is-checked c = sym (c .before .before .check .ensures .0) ∙ c .enum-told .given .1
 
 its-legal : (c : tie.After-enum-told) → let a = c .before .before .before .before .before .args in
