@@ -1,9 +1,9 @@
 -- `telemetry::read_word` meets its contract: the word's message is unpacked into buffers of the right lengths, and read.
 -- Assumes nothing.
-use mathlib.Core.Path.{_≡_, refl, sym, ap, _∙_}
+use mathlib.Core.Path.{refl, sym, ap, _∙_}
 use borrow.Author.Needs.{needs}
 use Rattle.message.specs.Answer.{rightLengths}
-use Rattle.telemetry.specs.Answer.{wordTelemetry, telemetryNumbers}
+use Rattle.telemetry.specs.Answer.{telemetryNumbers}
 use Rattle.telemetry.proofs.AnswerLaws.{word-refused, word-read}
 use Rattle.telemetry.proofs.read_word.Statement.{statement}
 use Rattle.telemetry.proofs.read_word.Tie as tie
@@ -37,10 +37,9 @@ unfolding rightLengths
 returns c =
     let k = c .before .before .before .before in
     let u = k .before .before .before .before in
-    let e = u .unpack .ensures in
-    let read = word-read _ _ (u .before .before .before .args .word) refl _ (sym (e .0) ∙ k .power .given .1) in
-    let got = c .read .ensures .0 in
-    let same : c .read .result ≡ wordTelemetry (u .before .before .before .args .word) = cc in
+    let (answer, (numbers, (callsign, (locator, promised)))) = u .unpack .ensures in
+    let read = word-read _ _ (u .before .before .before .args .word) refl _ (sym answer ∙ k .power .given .1) in
+    let same = rw (callsign, locator) at (c .read .ensures .0) ∙ sym read in
     (same, ap telemetryNumbers same)
 
 returns-2 : tie.Need-returns-2

@@ -1,6 +1,7 @@
 -- `telemetry_lines::main` is safe and ends: the output of each part is written from within the buffer.
 -- Assumes nothing.
 use Rattle.telemetry_lines.proofs.PutLaws.{put-count}
+use native.Mathlib.Omega.{arith}
 use borrow.Author.Needs.{needs}
 use Rattle.telemetry_lines.proofs.main.Statement.{statement}
 use Rattle.telemetry_lines.proofs.main.Tie as tie
@@ -33,7 +34,7 @@ slice-aggregate-answer-lines-2 : tie.Need-slice-aggregate-answer-lines-2
 slice-aggregate-answer-lines-2 c = search needs
 
 answer-lines-requires : tie.Need-answer-lines-requires
-answer-lines-requires c κs = search needs
+answer-lines-requires c κs = omega arith
 
 slice-aggregate-answer-last : tie.Need-slice-aggregate-answer-last
 slice-aggregate-answer-last c = search needs
