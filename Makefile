@@ -64,7 +64,9 @@ library:
 program: library
 	rt check telemetry_lines
 
-$(CARD): library
+# The semicolon is a recipe that does nothing: after it make looks at the file again, so that what is linked with a new
+# library is linked anew.
+$(CARD): library ;
 
 build/wsprcard: $(wildcard host/*.c host/*.h) include/wsprcard.h $(CARD)
 	mkdir -p build
@@ -145,9 +147,9 @@ build/fuzz_random: tests/fuzz/driver.c $(FUZZ) $(FUZZ_HEADERS) $(REFERENCE) $(FU
 	mkdir -p build
 	$(COMPILE) $(FUZZ_INCLUDES) -o $@ tests/fuzz/driver.c $(FUZZ) $(FUZZ_CARD) $(REFERENCE)
 
-$(REFERENCE): fuzz-reference
+$(REFERENCE): fuzz-reference ;
 
-$(REFERENCE_COVERED): fuzz-reference-covered
+$(REFERENCE_COVERED): fuzz-reference-covered ;
 
 fuzz-reference:
 	$(CARGO_REFERENCE) tests/target/fuzz

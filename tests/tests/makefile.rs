@@ -1,5 +1,6 @@
-// The Makefile's own recipes, run in folders of their own: `make test` with a stand-in for rt, so
-// that nothing is proved, and `make install` to a folder that isn't the system's.
+// The Makefile's own recipes, run in folders of their own: `make test` and linking with stand-ins for
+// rt and the compiler, so that nothing is proved, and `make install` to a folder that isn't the
+// system's.
 use std::fs;
 use std::os::unix::fs::PermissionsExt;
 use std::path::{Path, PathBuf};
@@ -31,13 +32,18 @@ fn make(folder: &Path, arguments: &[&str], path: &str) -> Output {
         .expect("make is there")
 }
 
+/// A program of the shell in this folder.
+fn stand_in(folder: &Path, name: &str, program: &str) {
+    let path = folder.join(name);
+    fs::write(&path, format!("#!/bin/sh\n{program}\n")).unwrap();
+    fs::set_permissions(&path, fs::Permissions::from_mode(0o755)).unwrap();
+}
+
 /// Whether `make test` goes on to its end behind a gate that does this. `true` stands for the make
 /// of the outside tests.
 fn passes(turn: usize, gate: &str) -> bool {
     let folder = folder(&format!("gate_{turn}"));
-    let rt = folder.join("rt");
-    fs::write(&rt, format!("#!/bin/sh\n{gate}\n")).unwrap();
-    fs::set_permissions(&rt, fs::Permissions::from_mode(0o755)).unwrap();
+    stand_in(&folder, "rt", gate);
     let path = format!("{}:/usr/bin:/bin", folder.display());
     let output = make(&folder, &["test", "MAKE=true"], &path);
     let printed = String::from_utf8(output.stdout).unwrap();
@@ -65,6 +71,23 @@ fn the_gate_passes_by_its_status_and_its_last_line() {
     ];
     for (turn, (right, gate)) in gates.into_iter().enumerate() {
         assert_eq!(passes(turn, gate), right, "{gate}");
+    }
+}
+
+/// A library that rt has just written is linked in the same run of make. The library here is the
+/// text of a file, and linking copies it.
+#[test]
+fn what_is_linked_with_a_new_library_is_linked_anew() {
+    let folder = folder("linked");
+    let path = format!("{}:/usr/bin:/bin", folder.display());
+    stand_in(&folder, "rt", "mkdir -p target/staticlib; cp text target/staticlib/libwsprcard.a");
+    stand_in(&folder, "gcc", "cp target/staticlib/libwsprcard.a build/wsprcard");
+    fs::create_dir(folder.join("include")).unwrap();
+    fs::write(folder.join("include/wsprcard.h"), "").unwrap();
+    for text in ["first", "second", "third"] {
+        fs::write(folder.join("text"), text).unwrap();
+        assert!(make(&folder, &["build/wsprcard"], &path).status.success());
+        assert_eq!(fs::read_to_string(folder.join("build/wsprcard")).unwrap(), text);
     }
 }
 

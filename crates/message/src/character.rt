@@ -109,7 +109,7 @@ pub(crate) fn first_bad_of(callsign: &[u8], locator: &[u8]) -> usize
 
 // A character's value, counted from the lowest of its place's set: 0 below it, as the definition's
 // difference is.
-pub fn digit_at(place: usize, byte: u8) -> u64
+fn digit_at(place: usize, byte: u8) -> u64
     ensures { λ r. ⌜ r ≡ digitAt place byte ⌝ }
 {
     let value = value_of(byte);

@@ -98,7 +98,7 @@ digitsOf-numberOf (r ∷ rs) (d ∷ ds) h =
     )
 
 -- For any number, packing its digits gives the number modulo the count.
-numberOf-digitsOf-mod : (rs : List ℕ) (n : ℕ) → Positive rs → numberOf rs (digitsOf rs n) ≡ n % count rs
+pub numberOf-digitsOf-mod : (rs : List ℕ) (n : ℕ) → Positive rs → numberOf rs (digitsOf rs n) ≡ n % count rs
 unfolding Positive count numberOf numberFrom digitsOf
 numberOf-digitsOf-mod [] n h = omega arith
 numberOf-digitsOf-mod (r ∷ rs) n h =

@@ -11,7 +11,7 @@ use Rattle.basics.specs.Lists.{tabulate}
 use Rattle.basics.proofs.Choice.{by-test, equal-or-not, between-true, between-range}
 use Rattle.basics.proofs.ListLaws.{AllPass, all-pass, none-fails, by-places}
 use Rattle.radix.specs.Numeral.{Digits, Positive, count, numberOf, digitsOf}
-use Rattle.radix.proofs.Laws.{digits-in-range, digitsOf-numberOf}
+use Rattle.radix.proofs.Laws.{digits-in-range, digitsOf-numberOf, numberOf-digitsOf-mod}
 use Rattle.message.specs.Character.{value, character, setAt, callsignSets, locatorSets, legalAt, digitAt, characterAt, overPlaces, digitsFrom, charactersFrom, DigitsAt}
 use Rattle.message.proofs.CharacterLaws.{AllLegal, value-digit, character-digit, character-letter, character-space, character-value, legal-from, legal-end, digits-of-legal, characters-of-digits, legal-of-digits, digits-of-characters}
 use Rattle.u4b.specs.Channel.{isFirstCharacter, isThirdCharacter}
@@ -20,7 +20,6 @@ use Rattle.u4b.specs.Characters.{upperRadices, callsignWith, upperDigits
 use Rattle.u4b.specs.Answer.{lettersAlone}
 use Rattle.u4b.specs.declared.channel.Channel.{Channel}
 use Rattle.u4b.specs.declared.channel.FirstCharacters.{FirstCharacters}
-use Rattle.u4b.proofs.NumberLaws.{numberOf-digitsOf-part}
 
 -- ---- The radices
 
@@ -101,7 +100,7 @@ module _ (channel : Channel) (a : ℕ) where
   unfolding callsignWith upperOf upperDigits charactersFrom digitsFrom overPlaces digitsOf upperRadices
   upperOf-callsignWith =
       ap (λ (d : List ℕ). numberOf upperRadices (getD d 1 0 ∷ getD d 3 0 ∷ getD d 4 0 ∷ getD d 5 0 ∷ [])) (digits-of-characters 0 _ (six-digits-at a))
-      ∙ numberOf-digitsOf-part upperRadices a upper-positive
+      ∙ numberOf-digitsOf-mod upperRadices a upper-positive
 
   pub callsignWith-legal : legalAt 0 (channel .first) ≡ true → legalAt 2 (channel .third) ≡ true → AllLegal 0 (callsignWith channel a)
   unfolding AllPass callsignWith charactersFrom overPlaces

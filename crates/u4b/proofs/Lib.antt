@@ -1,6 +1,5 @@
--- `NumberLaws`, `CallsignLaws`, `LocatorLaws`: the two numbers in a message and back. `AnswerLaws`: the cases of the answers.
+-- `CallsignLaws`, `LocatorLaws`: the two numbers in a message and back. `AnswerLaws`: the cases of the answers.
 -- `RoundTripLaws`: writing and reading, one after the other.
-pub mod NumberLaws
 pub mod CallsignLaws
 pub mod LocatorLaws
 pub mod AnswerLaws

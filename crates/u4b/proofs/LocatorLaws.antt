@@ -6,14 +6,13 @@ use mathlib.Core.Bool.{true}
 use mathlib.Core.List.{List, [], _∷_}
 use lib.ListN.{length, getD}
 use Rattle.radix.specs.Numeral.{Digits, Positive, count, digitsOf}
-use Rattle.radix.proofs.Laws.{digits-in-range, digitsOf-numberOf}
+use Rattle.radix.proofs.Laws.{digits-in-range, digitsOf-numberOf, numberOf-digitsOf-mod}
 use Rattle.power.specs.Powers.{powerIndex, legalPower}
 use Rattle.power.proofs.Laws.{powerAt-powerIndex, powerIndex-powerAt, legal-index, legal-powerAt}
 use Rattle.message.specs.Character.{setAt, callsignSets, locatorSets, digitsFrom, DigitsAt}
 use Rattle.message.proofs.CharacterLaws.{AllLegal, characters-of-digits, legal-of-digits, digits-of-characters, length-charactersFrom}
 use Rattle.message.proofs.WordLaws.{locator-in-sets}
 use Rattle.u4b.specs.Characters.{lowerRadices, locatorWith, powerWith, lowerOf}
-use Rattle.u4b.proofs.NumberLaws.{numberOf-digitsOf-part}
 
 pub lower-positive : Positive lowerRadices
 unfolding Positive lowerRadices
@@ -60,7 +59,7 @@ powerWith-legal b = legal-powerAt _ (index-below b)
 pub lowerOf-locatorWith : (b : ℕ) → lowerOf (locatorWith b) (powerWith b) ≡ b % count lowerRadices
 unfolding locatorWith powerWith lowerOf digitsOf lowerRadices
 lowerOf-locatorWith b =
-    rw (digits-of-characters 6 _ (four-digits-at b), powerIndex-powerAt _ (index-below b)) (numberOf-digitsOf-part lowerRadices b lower-positive)
+    rw (digits-of-characters 6 _ (four-digits-at b), powerIndex-powerAt _ (index-below b)) (numberOf-digitsOf-mod lowerRadices b lower-positive)
 
 -- ---- The number in a locator and power
 
