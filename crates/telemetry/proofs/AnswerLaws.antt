@@ -19,7 +19,7 @@ use Rattle.u4b.specs.declared.PayloadAnswer.{PayloadAnswer}
 use Rattle.u4b.proofs.AnswerLaws.{Answered, message-answered, refused-nonzero}
 use Rattle.telemetry.specs.Ranges.{firstOutOfRange}
 use Rattle.telemetry.specs.Payload.{basicBit, payloadFrom, readingOf}
-use Rattle.telemetry.specs.Answer.{basicFirst, measuredMessage, telemetryWritten, numbersTelemetry, basicTelemetry, telemetryIfPayload, telemetryRead, telemetryIfMessage, wordTelemetry, telemetryNumbers}
+use Rattle.telemetry.specs.Answer.{basicFirst, measuredMessage, telemetryWritten, payloadTelemetry, basicTelemetry, telemetryIfPayload, telemetryRead, telemetryIfMessage, wordTelemetry, telemetryNumbers}
 use Rattle.telemetry.specs.declared.Measured.{Measured}
 use Rattle.telemetry.specs.declared.Reading.{Reading}
 use Rattle.telemetry.specs.declared.TelemetryAnswer.{TelemetryAnswer}
@@ -59,24 +59,24 @@ module _ (callsign locator : List ℕ) (m : Measured) where
 -- ---- The cases of reading the two numbers
 
 module _ (p : Payload) where
-  pub numbers-position : 615_168 ≤ p .upper → numbersTelemetry p ≡ TelemetryAnswer.Refused (refusal badPositionNumber 0)
-  unfolding numbersTelemetry
-  numbers-position h = rw (le-leb 615_168 (p .upper) h)
+  pub payload-position : 615_168 ≤ p .upper → payloadTelemetry p ≡ TelemetryAnswer.Refused (refusal badPositionNumber 0)
+  unfolding payloadTelemetry
+  payload-position h = rw (le-leb 615_168 (p .upper) h)
 
   module _ (position : p .upper < 615_168) where
-    pub numbers-sensors : 604_800 ≤ p .lower → numbersTelemetry p ≡ TelemetryAnswer.Refused (refusal badSensorNumber 0)
-    unfolding numbersTelemetry
-    numbers-sensors h = rw (lt-leb 615_168 (p .upper) position, le-leb 604_800 (p .lower) h)
+    pub payload-sensors : 604_800 ≤ p .lower → payloadTelemetry p ≡ TelemetryAnswer.Refused (refusal badSensorNumber 0)
+    unfolding payloadTelemetry
+    payload-sensors h = rw (lt-leb 615_168 (p .upper) position, le-leb 604_800 (p .lower) h)
 
-    pub numbers-reading : p .lower < 604_800 → numbersTelemetry p ≡ TelemetryAnswer.Telemetry (readingOf p)
-    unfolding numbersTelemetry
-    numbers-reading h = rw (lt-leb 615_168 (p .upper) position, lt-leb 604_800 (p .lower) h)
+    pub payload-reading : p .lower < 604_800 → payloadTelemetry p ≡ TelemetryAnswer.Telemetry (readingOf p)
+    unfolding payloadTelemetry
+    payload-reading h = rw (lt-leb 615_168 (p .upper) position, lt-leb 604_800 (p .lower) h)
 
   pub basic-extended : (p .lower % 2 ≡ basicBit → ⊥) → basicTelemetry p ≡ TelemetryAnswer.Refused (refusal extendedTelemetry 0)
   unfolding basicTelemetry
   basic-extended e = rw (ne-eqb _ basicBit e)
 
-  pub basic-numbers : p .lower % 2 ≡ basicBit → basicTelemetry p ≡ numbersTelemetry p
+  pub basic-numbers : p .lower % 2 ≡ basicBit → basicTelemetry p ≡ payloadTelemetry p
   unfolding basicTelemetry
   basic-numbers e = rw (eq-eqb _ basicBit e)
 
@@ -111,11 +111,11 @@ pub record HoldsReading (p : Payload) (r : Reading) : Type 0 where
   pub sensors : p .lower < 604_800
   pub is-reading : r ≡ readingOf p
 
-refused-no-reading : (f : Refusal) (r : Reading) → TelemetryAnswer.Refused f ≡ TelemetryAnswer.Telemetry r → ⊥
+pub refused-no-reading : (f : Refusal) (r : Reading) → TelemetryAnswer.Refused f ≡ TelemetryAnswer.Telemetry r → ⊥
 refused-no-reading f r e = let z : _≡_ {A = ℕ} 0 1 = cc in omega arith
 
-pub holds-reading : (p : Payload) (r : Reading) → numbersTelemetry p ≡ TelemetryAnswer.Telemetry r → HoldsReading p r
-unfolding numbersTelemetry
+pub holds-reading : (p : Payload) (r : Reading) → payloadTelemetry p ≡ TelemetryAnswer.Telemetry r → HoldsReading p r
+unfolding payloadTelemetry
 holds-reading p r e =
     let position = cond-passed (leb 615_168 (p .upper)) e (refused-no-reading _ r) in
     let sensors = cond-passed (leb 604_800 (p .lower)) (position .1) (refused-no-reading _ r) in
@@ -150,16 +150,16 @@ written-answered callsign locator m =
 HasReading : TelemetryAnswer → Type 0
 HasReading a = telemetryNumbers a .number ≡ 0 → a ≡ TelemetryAnswer.Telemetry (telemetryNumbers a .reading)
 
-numbers-answered : (p : Payload) → HasReading (basicTelemetry p)
-unfolding HasReading basicTelemetry numbersTelemetry telemetryNumbers
-numbers-answered p =
+basic-answered : (p : Payload) → HasReading (basicTelemetry p)
+unfolding HasReading basicTelemetry payloadTelemetry telemetryNumbers
+basic-answered p =
     cond-both HasReading (not (eqb (p .lower % 2) basicBit)) (λ z. absurd (omega arith))
     (cond-both HasReading (leb 615_168 (p .upper)) (λ z. absurd (omega arith))
     (cond-both HasReading (leb 604_800 (p .lower)) (λ z. absurd (omega arith)) (λ z. refl)))
 
 payload-answered : (answer : PayloadAnswer) → ((f : Refusal) → answer ≡ PayloadAnswer.Refused f → f .number ≡ 0 → ⊥) → HasReading (telemetryIfPayload answer)
 unfolding HasReading telemetryIfPayload telemetryNumbers
-payload-answered (PayloadAnswer.Payload p) h = numbers-answered p
+payload-answered (PayloadAnswer.Payload p) h = basic-answered p
 payload-answered (PayloadAnswer.Refused f) h = λ z. absurd (h f refl z)
 
 pub read-answered : (callsign locator : List ℕ) (power : ℕ) → telemetryNumbers (telemetryRead callsign locator power) .number ≡ 0

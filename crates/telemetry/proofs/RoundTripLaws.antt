@@ -4,20 +4,22 @@ use mathlib.Core.Logic.{_↔_}
 use Prim.Native.Nat.{ℕ, _≤_}
 use native.Mathlib.Omega.{arith}
 use mathlib.Core.List.{List}
-use Rattle.message.specs.Answer.{contentAfter, messageNumbers}
+use Rattle.message.specs.Word.{callsignOf, locatorOf}
+use Rattle.message.specs.Answer.{wordMessage, contentAfter, messageNumbers}
 use Rattle.message.specs.declared.MessageAnswer.{MessageAnswer}
+use Rattle.message.proofs.RoundTripLaws.{unpack-pack, pack-unpack}
 use Rattle.u4b.specs.declared.PayloadAnswer.{PayloadAnswer}
 use Rattle.u4b.proofs.AnswerLaws.{writable}
 use Rattle.u4b.proofs.RoundTripLaws as U4b
 use Rattle.telemetry.specs.Payload.{basicBit, payloadFrom}
-use Rattle.telemetry.specs.Answer.{basicFirst, measuredMessage, measuredCallsign, measuredLocator, telemetryWritten, callsignAfterWrite, locatorAfterWrite, telemetryRead, telemetryNumbers}
-use Rattle.telemetry.specs.RoundTrip.{quantised, inTenths, MeasuredWritesAs, TelemetryReadsBack, TelemetryWritesBack, TelemetryRefused, NeverFromMeasured, TelemetryRefusedExactly}
+use Rattle.telemetry.specs.Answer.{basicFirst, measuredMessage, measuredCallsign, measuredLocator, telemetryWritten, callsignAfterTelemetry, locatorAfterTelemetry, telemetryRead, telemetryIfMessage, wordTelemetry, telemetryNumbers}
+use Rattle.telemetry.specs.RoundTrip.{quantised, inTenths, MeasuredWritesAs, TelemetryReadsBack, TelemetryWritesBack, TelemetryRefused, NeverFromMeasured, TelemetryRefusedExactly, SentAs, WordSentBack, NeverSent, WordTelemetryRefusedExactly}
 use Rattle.telemetry.specs.declared.Measured.{Measured}
 use Rattle.telemetry.specs.declared.Reading.{Reading}
 use Rattle.telemetry.specs.declared.TelemetryAnswer.{TelemetryAnswer}
 use Rattle.telemetry.proofs.RangeLaws.{in-range, none-out-of-range}
 use Rattle.telemetry.proofs.NumberLaws.{position-below, sensor-below, lowest-digit, readingOf-payload, again-in-range, payload-again}
-use Rattle.telemetry.proofs.AnswerLaws.{measured-payload, range-of-written, measured-of-written, numbers-reading, basic-numbers, read-payload, basic}
+use Rattle.telemetry.proofs.AnswerLaws.{measured-payload, range-of-written, measured-of-written, payload-reading, basic-numbers, read-payload, refused-no-reading, basic}
 
 -- ---- What was written reads back
 
@@ -34,7 +36,7 @@ read-write m power e =
     let whole = U4b.whole p (omega arith) (omega arith) in
     read-payload _ _ _ p (U4b.read-write basicFirst p power written ∙ ap PayloadAnswer.Payload whole)
     ∙ basic-numbers p (lowest-digit m r basicBit bit)
-    ∙ numbers-reading p position sensors
+    ∙ payload-reading p position sensors
     ∙ ap TelemetryAnswer.Telemetry (readingOf-payload m r basicBit bit)
 
 -- ---- What was read writes back
@@ -66,6 +68,34 @@ refuses-exactly callsign locator power = (λ refused m w. never refused m w, λ 
     exact (TelemetryAnswer.Telemetry r) e never-written = never-written (inTenths r) (write-read callsign locator power r e)
     exact (TelemetryAnswer.Refused f) e never-written = tt
 
+-- ---- The telemetry of a word
+
+-- A word that something measured is sent as reads as that, quantised.
+read-sent : (m : Measured) (word : ℕ) → SentAs m word → wordTelemetry word ≡ TelemetryAnswer.Telemetry (quantised m)
+unfolding wordTelemetry telemetryIfMessage
+read-sent m word s =
+    let back = unpack-pack (measuredCallsign m) (measuredLocator m) (s .power) word (s .its-word) in
+    rw (back .its-power, back .its-callsign, back .its-locator) (read-write m (s .power) (s .its-power))
+
+-- What was read of a word is sent as that word.
+sent-read : (word : ℕ) (answer : TelemetryAnswer) → wordTelemetry word ≡ answer → WordSentBack answer word
+unfolding wordTelemetry telemetryIfMessage
+sent-read word (TelemetryAnswer.Refused f) e = tt
+sent-read word (TelemetryAnswer.Telemetry r) e = go (wordMessage word) refl e
+  where
+    go : (answer : MessageAnswer) → wordMessage word ≡ answer → telemetryIfMessage answer word ≡ TelemetryAnswer.Telemetry r → SentAs (inTenths r) word
+    go (MessageAnswer.Power p) its-power read =
+        let w = write-read (callsignOf word) (locatorOf word) p r read in
+        record { power = p; its-power = w .its-power; its-word = rw (w .its-callsign, w .its-locator) (pack-unpack word p its-power) }
+    go (MessageAnswer.Refused f) its-power read = absurd (refused-no-reading f r read)
+
+word-refused-exactly : (word : ℕ) → TelemetryRefused (wordTelemetry word) ↔ NeverSent word
+word-refused-exactly word = (λ refused m sent. rw (read-sent m word sent) at refused, λ never. exact (wordTelemetry word) refl never)
+  where
+    exact : (answer : TelemetryAnswer) → wordTelemetry word ≡ answer → NeverSent word → TelemetryRefused answer
+    exact (TelemetryAnswer.Telemetry r) e never = never (inTenths r) (sent-read word (TelemetryAnswer.Telemetry r) e)
+    exact (TelemetryAnswer.Refused f) e never = tt
+
 -- ---- What the functions promise, from their answers and what the lent buffers then hold
 
 module _ (callsign locator : List ℕ) (m : Measured) where
@@ -73,8 +103,8 @@ module _ (callsign locator : List ℕ) (m : Measured) where
   WritePromised answer its-callsign its-locator =
       (answer ≡ telemetryWritten callsign locator m)
       × ((messageNumbers answer ≡ messageNumbers (telemetryWritten callsign locator m))
-      × ((its-callsign ≡ callsignAfterWrite callsign locator m)
-      × ((its-locator ≡ locatorAfterWrite callsign locator m) × TelemetryReadsBack answer m its-callsign its-locator)))
+      × ((its-callsign ≡ callsignAfterTelemetry callsign locator m)
+      × ((its-locator ≡ locatorAfterTelemetry callsign locator m) × TelemetryReadsBack answer m its-callsign its-locator)))
 
   reads-back : (answer : MessageAnswer) → telemetryWritten callsign locator m ≡ answer
       → TelemetryReadsBack answer m (contentAfter answer callsign (measuredCallsign m)) (contentAfter answer locator (measuredLocator m))
@@ -84,7 +114,7 @@ module _ (callsign locator : List ℕ) (m : Measured) where
 
   pub write-promised : (answer : MessageAnswer) → telemetryWritten callsign locator m ≡ answer
       → WritePromised answer (contentAfter answer callsign (measuredCallsign m)) (contentAfter answer locator (measuredLocator m))
-  unfolding callsignAfterWrite locatorAfterWrite
+  unfolding callsignAfterTelemetry locatorAfterTelemetry
   write-promised answer e = (sym e, (rw e, (rw e, (rw e, reads-back answer e))))
 
 module _ (callsign locator : List ℕ) (power : ℕ) where
@@ -100,3 +130,13 @@ module _ (callsign locator : List ℕ) (power : ℕ) where
 
   pub read-promised : (answer : TelemetryAnswer) → telemetryRead callsign locator power ≡ answer → ReadPromised answer
   read-promised answer e = (sym e, (rw e, (writes-back answer e, rw e at (refuses-exactly callsign locator power))))
+
+module _ (word : ℕ) where
+  abbrev pub WordPromised : TelemetryAnswer → Type 0
+  WordPromised answer =
+      (answer ≡ wordTelemetry word)
+      × ((telemetryNumbers answer ≡ telemetryNumbers (wordTelemetry word))
+      × (WordSentBack answer word × WordTelemetryRefusedExactly answer word))
+
+  pub word-promised : (answer : TelemetryAnswer) → wordTelemetry word ≡ answer → WordPromised answer
+  word-promised answer e = (sym e, (rw e, (sent-read word answer e, rw e at (word-refused-exactly word))))

@@ -46,18 +46,18 @@ telemetryWritten callsign locator m =
     cond (not (rightLengths (length callsign) (length locator))) (MessageAnswer.Refused (refusal wrongLength 0)) (measuredMessage m)
 
 -- What the lent callsign then holds.
-unfoldable pub callsignAfterWrite : List ℕ → List ℕ → Measured → List ℕ
-callsignAfterWrite callsign locator m = contentAfter (telemetryWritten callsign locator m) callsign (measuredCallsign m)
+unfoldable pub callsignAfterTelemetry : List ℕ → List ℕ → Measured → List ℕ
+callsignAfterTelemetry callsign locator m = contentAfter (telemetryWritten callsign locator m) callsign (measuredCallsign m)
 
 -- What the lent locator then holds.
-unfoldable pub locatorAfterWrite : List ℕ → List ℕ → Measured → List ℕ
-locatorAfterWrite callsign locator m = contentAfter (telemetryWritten callsign locator m) locator (measuredLocator m)
+unfoldable pub locatorAfterTelemetry : List ℕ → List ℕ → Measured → List ℕ
+locatorAfterTelemetry callsign locator m = contentAfter (telemetryWritten callsign locator m) locator (measuredLocator m)
 
 -- ---- Reading: "telemetry reading 1, 2, 3, 10, 11, 12, 13"
 
--- The readings in the two numbers A and B, or why they hold none.
-unfoldable pub numbersTelemetry : Payload → TelemetryAnswer
-numbersTelemetry p =
+-- The readings in the two numbers A and B, or why they hold none: 12, "A is 615,168 or more", and 13, "B is 604,800 or more".
+unfoldable pub payloadTelemetry : Payload → TelemetryAnswer
+payloadTelemetry p =
     cond (leb 615_168 (p .upper)) (TelemetryAnswer.Refused (refusal badPositionNumber 0))
     (cond (leb 604_800 (p .lower)) (TelemetryAnswer.Refused (refusal badSensorNumber 0))
     (TelemetryAnswer.Telemetry (readingOf p)))
@@ -65,7 +65,7 @@ numbersTelemetry p =
 -- "B is even: extended, not basic"
 unfoldable pub basicTelemetry : Payload → TelemetryAnswer
 basicTelemetry p =
-    cond (not (eqb (p .lower % 2) basicBit)) (TelemetryAnswer.Refused (refusal extendedTelemetry 0)) (numbersTelemetry p)
+    cond (not (eqb (p .lower % 2) basicBit)) (TelemetryAnswer.Refused (refusal extendedTelemetry 0)) (payloadTelemetry p)
 
 -- 1, 2, 3 and 10 are those of reading the channel and the two numbers.
 unfoldable pub telemetryIfPayload : PayloadAnswer → TelemetryAnswer

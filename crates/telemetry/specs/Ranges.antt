@@ -18,9 +18,9 @@ temperatureInRange tenths = leZ (negℤ (pos 500)) tenths && leZ tenths (pos 399
 -- What is measured, in the order of the places: "0 first character, 1 third, 2 g5, 3 g6, 4 altitude, 5 temperature, 6 voltage, 7 speed,
 -- 8 GPS"; each is in its range.
 unfoldable pub inRanges : FirstCharacters → Measured → List Bool
-inRanges first m =
+inRanges taken m =
     let sensors = m .sensors in
-    isFirstCharacter first (m .channel .first)
+    isFirstCharacter taken (m .channel .first)
     ∷ isThirdCharacter (m .channel .third)
     ∷ isSubSquare (m .square .grid5)
     ∷ isSubSquare (m .square .grid6)
@@ -33,8 +33,9 @@ inRanges first m =
 
 -- The first place that is out of its range; 9 where none is.
 unfoldable pub firstOutOfRange : FirstCharacters → Measured → ℕ
-firstOutOfRange first m = firstFalse (inRanges first m)
+firstOutOfRange taken m = firstFalse (inRanges taken m)
 
--- Nothing is out of its range, whichever first characters are taken: what the two numbers have to know, in which no channel stands.
-abbrev pub AllInRange : Measured → Type 0
-AllInRange m = (first : FirstCharacters) × (firstOutOfRange first m ≡ 9)
+-- Nothing is out of its range, for some choice of the first characters that are taken: which it is doesn't matter to the two numbers, in
+-- which no channel stands.
+abbrev pub InRangeForSome : Measured → Type 0
+InRangeForSome m = (taken : FirstCharacters) × (firstOutOfRange taken m ≡ 9)

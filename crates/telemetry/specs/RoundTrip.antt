@@ -5,7 +5,9 @@ use mathlib.Core.Path.{_≡_}
 use mathlib.Core.Logic.{_↔_}
 use mathlib.Core.List.{List}
 use lib.IntN.{pos, _*ℤ_}
+use Rattle.message.specs.Answer.{messagePacked}
 use Rattle.message.specs.declared.MessageAnswer.{MessageAnswer}
+use Rattle.message.specs.declared.WordAnswer.{WordAnswer}
 use Rattle.telemetry.specs.Codes.{altitudeCode, temperatureCode, voltageCode, speedCode, metres, degrees, millivolts, knots}
 use Rattle.telemetry.specs.Answer.{measuredMessage, measuredCallsign, measuredLocator, telemetryRead}
 use Rattle.telemetry.specs.declared.Measured.{Measured}
@@ -73,3 +75,24 @@ NeverFromMeasured callsign locator power = (m : Measured) → MeasuredWritesAs m
 -- The answer is a refusal exactly where nothing that is measured writes the message.
 abbrev pub TelemetryRefusedExactly : TelemetryAnswer → List ℕ → List ℕ → ℕ → Type 0
 TelemetryRefusedExactly answer callsign locator power = TelemetryRefused answer ↔ NeverFromMeasured callsign locator power
+
+-- ---- The telemetry of a word
+
+-- What was measured is sent as this word: its message has it.
+pub record SentAs (m : Measured) (word : ℕ) : Type 0 where
+  pub power : ℕ
+  pub its-power : measuredMessage m ≡ MessageAnswer.Power power
+  pub its-word : messagePacked (measuredCallsign m) (measuredLocator m) power ≡ WordAnswer.Word word
+
+-- What was read of a word is sent as that word again.
+abbrev pub WordSentBack : TelemetryAnswer → ℕ → Type 0
+WordSentBack (TelemetryAnswer.Telemetry r) word = SentAs (inTenths r) word
+WordSentBack (TelemetryAnswer.Refused f) word = Unit
+
+-- Nothing that is measured is sent as this word.
+abbrev pub NeverSent : ℕ → Type 0
+NeverSent word = (m : Measured) → SentAs m word → ⊥
+
+-- The answer is a refusal exactly where nothing that is measured is sent as the word.
+abbrev pub WordTelemetryRefusedExactly : TelemetryAnswer → ℕ → Type 0
+WordTelemetryRefusedExactly answer word = TelemetryRefused answer ↔ NeverSent word

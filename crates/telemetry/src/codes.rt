@@ -2,10 +2,10 @@
 ghost use mathlib.Core.Path.{_≡_};
 ghost use mathlib.Core.Bool.{true};
 ghost use Prim.Native.Nat.{_≤_};
-ghost use Rattle.telemetry.specs.Ranges.{temperatureInRange, AllInRange};
+ghost use Rattle.telemetry.specs.Ranges.{temperatureInRange, InRangeForSome};
 ghost use Rattle.telemetry.specs.Codes.{temperatureCode, voltageCode, degrees, millivolts};
 ghost use Rattle.telemetry.specs.Payload.{positionNumber, sensorNumber, payloadFrom, readingOf};
-ghost use Rattle.telemetry.specs.Answer.{numbersTelemetry, basicTelemetry};
+ghost use Rattle.telemetry.specs.Answer.{payloadTelemetry, basicTelemetry};
 use super::Measured;
 use super::Reading;
 use super::Sensors;
@@ -49,7 +49,7 @@ fn voltage_code(voltage: u32) -> u64
 
 // The number of the sub-square and altitude (01: A).
 fn position_number(m: Measured) -> u64
-    requires { ⌜ AllInRange m ⌝ }
+    requires { ⌜ InRangeForSome m ⌝ }
     ensures { λ r. ⌜ r ≡ positionNumber m ⌝ }
 {
     let square = m.square;
@@ -65,7 +65,7 @@ fn position_number(m: Measured) -> u64
 // The number of temperature, voltage, speed and GPS (01: B), with the lowest digit.
 fn sensor_number(lowest: u64, m: Measured) -> u64
     requires { ⌜ lowest ≤ 1 ⌝ }
-    requires { ⌜ AllInRange m ⌝ }
+    requires { ⌜ InRangeForSome m ⌝ }
     ensures { λ r. ⌜ r ≡ sensorNumber lowest (m .sensors) ⌝ }
 {
     let sensors = m.sensors;
@@ -79,7 +79,7 @@ fn sensor_number(lowest: u64, m: Measured) -> u64
 // The channel and both numbers, with the lowest digit.
 pub(crate) fn payload_from(lowest: u64, m: Measured) -> Payload
     requires { ⌜ lowest ≤ 1 ⌝ }
-    requires { ⌜ AllInRange m ⌝ }
+    requires { ⌜ InRangeForSome m ⌝ }
     ensures { λ r. ⌜ r ≡ payloadFrom lowest m ⌝ }
 {
     let channel = m.channel;
@@ -132,8 +132,8 @@ fn reading_of(payload: Payload) -> Reading
 }
 
 // The readings in the two numbers, where they hold such, whatever the lowest digit.
-fn read_numbers(payload: Payload) -> TelemetryAnswer
-    ensures { λ r. ⌜ r ≡ numbersTelemetry payload ⌝ }
+fn read_payload(payload: Payload) -> TelemetryAnswer
+    ensures { λ r. ⌜ r ≡ payloadTelemetry payload ⌝ }
 {
     if POSITION_COUNT <= payload.upper {
         return TelemetryAnswer::Refused(Refusal {
@@ -160,5 +160,5 @@ pub(crate) fn read_basic(payload: Payload) -> TelemetryAnswer
             place: 0,
         });
     }
-    read_numbers(payload)
+    read_payload(payload)
 }

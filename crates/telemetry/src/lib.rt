@@ -4,8 +4,8 @@ mod range;
 
 ghost use mathlib.Core.Path.{_≡_};
 ghost use Rattle.message.specs.Answer.{messageNumbers};
-ghost use Rattle.telemetry.specs.Answer.{telemetryWritten, callsignAfterWrite, locatorAfterWrite, telemetryRead, wordTelemetry, telemetryNumbers};
-ghost use Rattle.telemetry.specs.RoundTrip.{TelemetryReadsBack, TelemetryWritesBack, TelemetryRefusedExactly};
+ghost use Rattle.telemetry.specs.Answer.{telemetryWritten, callsignAfterTelemetry, locatorAfterTelemetry, telemetryRead, wordTelemetry, telemetryNumbers};
+ghost use Rattle.telemetry.specs.RoundTrip.{TelemetryReadsBack, TelemetryWritesBack, TelemetryRefusedExactly, WordSentBack, WordTelemetryRefusedExactly};
 use message::MessageAnswer;
 use refusal::OUT_OF_RANGE;
 use refusal::Refusal;
@@ -50,8 +50,8 @@ pub enum TelemetryAnswer {
 pub fn write(measured: Measured, callsign: &mut [u8], locator: &mut [u8]) -> MessageAnswer
     ensures answer { λ r. ⌜ r ≡ telemetryWritten (now (callsign .entry)) (now (locator .entry)) measured ⌝ }
     ensures numbers { λ r. ⌜ messageNumbers r ≡ messageNumbers (telemetryWritten (now (callsign .entry)) (now (locator .entry)) measured) ⌝ }
-    ensures callsign_after { λ _. ⌜ now (callsign .exit) ≡ callsignAfterWrite (now (callsign .entry)) (now (locator .entry)) measured ⌝ }
-    ensures locator_after { λ _. ⌜ now (locator .exit) ≡ locatorAfterWrite (now (callsign .entry)) (now (locator .entry)) measured ⌝ }
+    ensures callsign_after { λ _. ⌜ now (callsign .exit) ≡ callsignAfterTelemetry (now (callsign .entry)) (now (locator .entry)) measured ⌝ }
+    ensures locator_after { λ _. ⌜ now (locator .exit) ≡ locatorAfterTelemetry (now (callsign .entry)) (now (locator .entry)) measured ⌝ }
     ensures reads_back { λ r. ⌜ TelemetryReadsBack r measured (now (callsign .exit)) (now (locator .exit)) ⌝ }
 {
     if !message::right_lengths(callsign.len(), locator.len()) {
@@ -88,6 +88,8 @@ pub fn read(callsign: &[u8], locator: &[u8], power: u32) -> TelemetryAnswer
 pub fn read_word(word: u64) -> TelemetryAnswer
     ensures answer { λ r. ⌜ r ≡ wordTelemetry word ⌝ }
     ensures numbers { λ r. ⌜ telemetryNumbers r ≡ telemetryNumbers (wordTelemetry word) ⌝ }
+    ensures sent_back { λ r. ⌜ WordSentBack r word ⌝ }
+    ensures refuses_exactly { λ r. ⌜ WordTelemetryRefusedExactly r word ⌝ }
 {
     let mut callsign = [0u8; 6];
     let mut locator = [0u8; 4];

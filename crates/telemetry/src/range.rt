@@ -23,13 +23,13 @@ fn temperature_in_range(tenths: i32) -> bool
 }
 
 // The first input that is out of its range, 0 to 8 in the order of the fields; 9 where none is.
-pub(crate) fn first_out_of_range(first: FirstCharacters, m: Measured) -> u32
-    ensures { λ r. ⌜ r ≡ firstOutOfRange first m ⌝ }
+pub(crate) fn first_out_of_range(taken: FirstCharacters, m: Measured) -> u32
+    ensures { λ r. ⌜ r ≡ firstOutOfRange taken m ⌝ }
 {
     let channel = m.channel;
     let square = m.square;
     let sensors = m.sensors;
-    if !is_first_character(first, channel.first) {
+    if !is_first_character(taken, channel.first) {
         return 0;
     }
     if !is_third_character(channel.third) {

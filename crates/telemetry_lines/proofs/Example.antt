@@ -10,10 +10,10 @@ use Rattle.message.specs.Answer.{rightLengths, messageChecked}
 use Rattle.u4b.specs.Channel.{isFirstCharacter}
 use Rattle.u4b.specs.Alphabet.{takenAt, firstNotTaken}
 use Rattle.u4b.specs.Characters.{upperRadices, upperDigits, upperOf, lowerRadices, lowerOf}
-use Rattle.u4b.specs.Answer.{payloadOf, messagePayload, ifLegal, payloadRead}
+use Rattle.u4b.specs.Answer.{payloadOf, messagePayload, payloadIfLegal, payloadRead}
 use Rattle.telemetry.specs.Codes.{metres, degrees, millivolts, knots}
 use Rattle.telemetry.specs.Payload.{positionRadices, sensorRadices, readingFrom, readingOf}
-use Rattle.telemetry.specs.Answer.{numbersTelemetry, basicTelemetry, telemetryIfPayload, telemetryRead}
+use Rattle.telemetry.specs.Answer.{payloadTelemetry, basicTelemetry, telemetryIfPayload, telemetryRead}
 use Rattle.telemetry_lines.specs.Text.{digitCharacter, decimalOf, decimalText, integerText, lineOf, header, readingText, refusalText, answerText}
 use Rattle.telemetry_lines.specs.Line.{hasForm, callsignIn, locatorIn, powerIn, lineAnswer, lineText}
 use Rattle.telemetry_lines.specs.Stream.{lineAfter, outputAfter, lastText, outputOf}
@@ -23,7 +23,7 @@ pub example-shown : outputOf exampleInput ≡ exampleOutput
 unfolding bytes firstFailing sameList count numberOf numberFrom digitsOf powers indexIn powerIndex legalPower value callsignSets
     locatorSets setAt legalAt digitAt overPlaces digitsFrom
     rightLengths messageChecked isFirstCharacter metres degrees millivolts knots positionRadices sensorRadices readingFrom readingOf
-    takenAt firstNotTaken upperRadices upperDigits upperOf lowerRadices lowerOf payloadOf messagePayload ifLegal payloadRead
-    numbersTelemetry basicTelemetry telemetryIfPayload telemetryRead digitCharacter decimalOf decimalText integerText lineOf header readingText refusalText answerText hasForm callsignIn locatorIn powerIn lineAnswer lineText
+    takenAt firstNotTaken upperRadices upperDigits upperOf lowerRadices lowerOf payloadOf messagePayload payloadIfLegal payloadRead
+    payloadTelemetry basicTelemetry telemetryIfPayload telemetryRead digitCharacter decimalOf decimalText integerText lineOf header readingText refusalText answerText hasForm callsignIn locatorIn powerIn lineAnswer lineText
     lineAfter outputAfter lastText outputOf linesOf exampleInput exampleOutput
 example-shown = sameList-equal (outputOf exampleInput) exampleOutput refl

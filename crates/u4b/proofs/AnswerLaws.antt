@@ -17,74 +17,74 @@ use Rattle.message.proofs.AnswerLaws.{Legal, legal-of-checked, checked-nonzero,
 use Rattle.u4b.specs.Channel.{isFirstCharacter, isThirdCharacter}
 use Rattle.u4b.specs.Alphabet.{firstNotTaken}
 use Rattle.u4b.specs.Characters.{powerWith}
-use Rattle.u4b.specs.Answer.{payloadMessage, payloadWritten, payloadOf, lettersAlone, messagePayload, ifLegal, payloadRead}
+use Rattle.u4b.specs.Answer.{payloadMessage, payloadWritten, payloadOf, payloadAlphabet, messagePayload, payloadIfLegal, payloadRead}
 use Rattle.u4b.specs.declared.channel.FirstCharacters.{FirstCharacters}
 use Rattle.u4b.specs.declared.Payload.{Payload}
 use Rattle.u4b.specs.declared.PayloadAnswer.{PayloadAnswer}
 
 -- ---- The cases of writing
 
-module _ (first : FirstCharacters) (payload : Payload) where
-  pub message-first : isFirstCharacter first (payload .channel .first) ≡ false → payloadMessage first payload ≡ MessageAnswer.Refused (refusal outOfRange 0)
+module _ (taken : FirstCharacters) (payload : Payload) where
+  pub message-first : isFirstCharacter taken (payload .channel .first) ≡ false → payloadMessage taken payload ≡ MessageAnswer.Refused (refusal outOfRange 0)
   unfolding payloadMessage
   message-first e = rw e
 
-  module _ (is-first : isFirstCharacter first (payload .channel .first) ≡ true) where
-    pub message-third : isThirdCharacter (payload .channel .third) ≡ false → payloadMessage first payload ≡ MessageAnswer.Refused (refusal outOfRange 1)
+  module _ (is-first : isFirstCharacter taken (payload .channel .first) ≡ true) where
+    pub message-third : isThirdCharacter (payload .channel .third) ≡ false → payloadMessage taken payload ≡ MessageAnswer.Refused (refusal outOfRange 1)
     unfolding payloadMessage
     message-third e = rw (is-first, e)
 
-    pub message-power : isThirdCharacter (payload .channel .third) ≡ true → payloadMessage first payload ≡ MessageAnswer.Power (powerWith (payload .lower))
+    pub message-power : isThirdCharacter (payload .channel .third) ≡ true → payloadMessage taken payload ≡ MessageAnswer.Power (powerWith (payload .lower))
     unfolding payloadMessage
     message-power e = rw (is-first, e)
 
   -- What a payload is that is written, and its power.
   pub record Writable (power : ℕ) : Type 0 where
-    pub is-first : isFirstCharacter first (payload .channel .first) ≡ true
+    pub is-first : isFirstCharacter taken (payload .channel .first) ≡ true
     pub is-third : isThirdCharacter (payload .channel .third) ≡ true
     pub is-power : power ≡ powerWith (payload .lower)
 
-  pub writable : (power : ℕ) → payloadMessage first payload ≡ MessageAnswer.Power power → Writable power
+  pub writable : (power : ℕ) → payloadMessage taken payload ≡ MessageAnswer.Power power → Writable power
   unfolding payloadMessage
   writable power e =
-      let its-first = cond-passed (not (isFirstCharacter first (payload .channel .first))) e (refused-no-power _ power) in
+      let its-first = cond-passed (not (isFirstCharacter taken (payload .channel .first))) e (refused-no-power _ power) in
       let its-third = cond-passed (not (isThirdCharacter (payload .channel .third))) (its-first .1) (refused-no-power _ power) in
       record { is-first = not-false _ (its-first .0); is-third = not-false _ (its-third .0); is-power = cc }
 
-module _ (first : FirstCharacters) (callsign locator : List ℕ) (payload : Payload) where
+module _ (taken : FirstCharacters) (callsign locator : List ℕ) (payload : Payload) where
   pub written-length : rightLengths (length callsign) (length locator) ≡ false
-      → payloadWritten first callsign locator payload ≡ MessageAnswer.Refused (refusal wrongLength 0)
+      → payloadWritten taken callsign locator payload ≡ MessageAnswer.Refused (refusal wrongLength 0)
   unfolding payloadWritten
   written-length e = rw e
 
-  pub written-message : rightLengths (length callsign) (length locator) ≡ true → payloadWritten first callsign locator payload ≡ payloadMessage first payload
+  pub written-message : rightLengths (length callsign) (length locator) ≡ true → payloadWritten taken callsign locator payload ≡ payloadMessage taken payload
   unfolding payloadWritten
   written-message e = rw e
 
-  pub message-of-written : (power : ℕ) → payloadWritten first callsign locator payload ≡ MessageAnswer.Power power
-      → payloadMessage first payload ≡ MessageAnswer.Power power
+  pub message-of-written : (power : ℕ) → payloadWritten taken callsign locator payload ≡ MessageAnswer.Power power
+      → payloadMessage taken payload ≡ MessageAnswer.Power power
   unfolding payloadWritten
   message-of-written power e = cond-passed (not (rightLengths (length callsign) (length locator))) e (refused-no-power _ power) .1
 
 -- ---- The cases of reading
 
-module _ (first : FirstCharacters) (callsign locator : List ℕ) (power : ℕ) where
-  pub read-illegal : (f : Refusal) → messageChecked callsign locator power ≡ CheckAnswer.Refused f → payloadRead first callsign locator power ≡ PayloadAnswer.Refused f
-  unfolding payloadRead ifLegal
+module _ (taken : FirstCharacters) (callsign locator : List ℕ) (power : ℕ) where
+  pub read-illegal : (f : Refusal) → messageChecked callsign locator power ≡ CheckAnswer.Refused f → payloadRead taken callsign locator power ≡ PayloadAnswer.Refused f
+  unfolding payloadRead payloadIfLegal
   read-illegal f e = rw e
 
   module _ (legal : messageChecked callsign locator power ≡ CheckAnswer.Legal) where
-    read-legal : payloadRead first callsign locator power ≡ messagePayload first callsign locator power
-    unfolding payloadRead ifLegal
+    read-legal : payloadRead taken callsign locator power ≡ messagePayload taken callsign locator power
+    unfolding payloadRead payloadIfLegal
     read-legal = rw legal
 
-    pub read-not-taken : (place : ℕ) → firstNotTaken (lettersAlone first) callsign ≡ place → place < 6
-        → payloadRead first callsign locator power ≡ PayloadAnswer.Refused (refusal notTelemetry place)
+    pub read-not-taken : (place : ℕ) → firstNotTaken (payloadAlphabet taken) callsign ≡ place → place < 6
+        → payloadRead taken callsign locator power ≡ PayloadAnswer.Refused (refusal notTelemetry place)
     unfolding messagePayload
     read-not-taken place e h = read-legal ∙ rw (e, lt-ltb place 6 h)
 
-    pub read-payload : 6 ≤ firstNotTaken (lettersAlone first) callsign
-        → payloadRead first callsign locator power ≡ PayloadAnswer.Payload (payloadOf callsign locator power)
+    pub read-payload : 6 ≤ firstNotTaken (payloadAlphabet taken) callsign
+        → payloadRead taken callsign locator power ≡ PayloadAnswer.Payload (payloadOf callsign locator power)
     unfolding messagePayload
     read-payload h = read-legal ∙ rw (le-ltb _ 6 h)
 
@@ -92,27 +92,27 @@ refused-no-payload : (f : Refusal) (p : Payload) → PayloadAnswer.Refused f ≡
 refused-no-payload f p e = let z : _≡_ {A = ℕ} 0 1 = cc in omega arith
 
 -- What a message is whose payload is read, and its payload.
-pub record Readable (first : FirstCharacters) (callsign locator : List ℕ) (power : ℕ) (p : Payload) : Type 0 where
+pub record Readable (taken : FirstCharacters) (callsign locator : List ℕ) (power : ℕ) (p : Payload) : Type 0 where
   pub legal : Legal callsign locator power
-  pub taken : 6 ≤ firstNotTaken (lettersAlone first) callsign
+  pub all-taken : 6 ≤ firstNotTaken (payloadAlphabet taken) callsign
   pub is-payload : p ≡ payloadOf callsign locator power
 
-pub readable : (first : FirstCharacters) (callsign locator : List ℕ) (power : ℕ) (p : Payload)
-    → payloadRead first callsign locator power ≡ PayloadAnswer.Payload p → Readable first callsign locator power p
+pub readable : (taken : FirstCharacters) (callsign locator : List ℕ) (power : ℕ) (p : Payload)
+    → payloadRead taken callsign locator power ≡ PayloadAnswer.Payload p → Readable taken callsign locator power p
 unfolding messagePayload
-readable first callsign locator power p e = go (messageChecked callsign locator power) refl
+readable taken callsign locator power p e = go (messageChecked callsign locator power) refl
   where
-    taken-of : messagePayload first callsign locator power ≡ PayloadAnswer.Payload p
-        → (6 ≤ firstNotTaken (lettersAlone first) callsign) × (p ≡ payloadOf callsign locator power)
+    taken-of : messagePayload taken callsign locator power ≡ PayloadAnswer.Payload p
+        → (6 ≤ firstNotTaken (payloadAlphabet taken) callsign) × (p ≡ payloadOf callsign locator power)
     taken-of m =
-        let tests = cond-passed (ltb (firstNotTaken (lettersAlone first) callsign) 6) m (refused-no-payload _ p) in
+        let tests = cond-passed (ltb (firstNotTaken (payloadAlphabet taken) callsign) 6) m (refused-no-payload _ p) in
         (ltb-false _ _ (tests .0), cc)
 
-    go : (answer : CheckAnswer) → messageChecked callsign locator power ≡ answer → Readable first callsign locator power p
+    go : (answer : CheckAnswer) → messageChecked callsign locator power ≡ answer → Readable taken callsign locator power p
     go CheckAnswer.Legal c =
-        let (taken, same) = taken-of (sym (read-legal first callsign locator power c) ∙ e) in
-        record { legal = legal-of-checked callsign locator power c; taken = taken; is-payload = same }
-    go (CheckAnswer.Refused f) c = absurd (refused-no-payload f p (sym (read-illegal first callsign locator power f c) ∙ e))
+        let (all-taken, same) = taken-of (sym (read-legal taken callsign locator power c) ∙ e) in
+        record { legal = legal-of-checked callsign locator power c; all-taken = all-taken; is-payload = same }
+    go (CheckAnswer.Refused f) c = absurd (refused-no-payload f p (sym (read-illegal taken callsign locator power f c) ∙ e))
 
 -- ---- The refusal number 0 is that of the answers that are no refusal
 
@@ -120,10 +120,10 @@ readable first callsign locator power p e = go (messageChecked callsign locator 
 abbrev pub Answered : MessageAnswer → Type 0
 Answered a = messageNumbers a .number ≡ 0 → a ≡ MessageAnswer.Power (messageNumbers a .power)
 
-pub message-answered : (first : FirstCharacters) (payload : Payload) → Answered (payloadMessage first payload)
+pub message-answered : (taken : FirstCharacters) (payload : Payload) → Answered (payloadMessage taken payload)
 unfolding payloadMessage messageNumbers
-message-answered first payload =
-    cond-both Answered (not (isFirstCharacter first (payload .channel .first))) (λ z. absurd (omega arith))
+message-answered taken payload =
+    cond-both Answered (not (isFirstCharacter taken (payload .channel .first))) (λ z. absurd (omega arith))
     (cond-both Answered (not (isThirdCharacter (payload .channel .third))) (λ z. absurd (omega arith)) (λ z. refl))
 
 -- No refusal of reading has the number 0.
@@ -131,15 +131,15 @@ Nonzero : PayloadAnswer → Type 0
 Nonzero answer = (f : Refusal) → answer ≡ PayloadAnswer.Refused f → f .number ≡ 0 → ⊥
 
 nonzero-if : (answer : CheckAnswer) (d : PayloadAnswer) → ((f : Refusal) → answer ≡ CheckAnswer.Refused f → f .number ≡ 0 → ⊥) → Nonzero d
-    → Nonzero (ifLegal answer d)
-unfolding Nonzero ifLegal
+    → Nonzero (payloadIfLegal answer d)
+unfolding Nonzero payloadIfLegal
 nonzero-if CheckAnswer.Legal d h k = k
 nonzero-if (CheckAnswer.Refused g) d h k = λ f e z. let same : g .number ≡ f .number = cc in h g refl (same ∙ z)
 
-pub refused-nonzero : (first : FirstCharacters) (callsign locator : List ℕ) (power : ℕ) (f : Refusal)
-    → payloadRead first callsign locator power ≡ PayloadAnswer.Refused f → f .number ≡ 0 → ⊥
+pub refused-nonzero : (taken : FirstCharacters) (callsign locator : List ℕ) (power : ℕ) (f : Refusal)
+    → payloadRead taken callsign locator power ≡ PayloadAnswer.Refused f → f .number ≡ 0 → ⊥
 unfolding Nonzero payloadRead messagePayload
-refused-nonzero first callsign locator power =
-    nonzero-if (messageChecked callsign locator power) (messagePayload first callsign locator power) (checked-nonzero callsign locator power)
-    (cond-both Nonzero (ltb (firstNotTaken (lettersAlone first) callsign) 6) (λ f e z. let n : notTelemetry ≡ f .number = cc in omega arith)
+refused-nonzero taken callsign locator power =
+    nonzero-if (messageChecked callsign locator power) (messagePayload taken callsign locator power) (checked-nonzero callsign locator power)
+    (cond-both Nonzero (ltb (firstNotTaken (payloadAlphabet taken) callsign) 6) (λ f e z. let n : notTelemetry ≡ f .number = cc in omega arith)
     (λ f e z. refused-no-payload f _ (sym e)))

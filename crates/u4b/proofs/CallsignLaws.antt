@@ -17,7 +17,7 @@ use Rattle.message.proofs.CharacterLaws.{AllLegal, value-digit, character-digit
 use Rattle.u4b.specs.Channel.{isFirstCharacter, isThirdCharacter}
 use Rattle.u4b.specs.Alphabet.{takenAt, firstNotTaken}
 use Rattle.u4b.specs.Characters.{upperRadices, callsignWith, upperDigits, upperOf}
-use Rattle.u4b.specs.Answer.{lettersAlone}
+use Rattle.u4b.specs.Answer.{payloadAlphabet}
 use Rattle.u4b.specs.declared.channel.Channel.{Channel}
 use Rattle.u4b.specs.declared.channel.FirstCharacters.{FirstCharacters}
 
@@ -66,7 +66,7 @@ third-of-legal byte e =
 
 -- Every character of a callsign is taken at its place.
 abbrev AllTaken : FirstCharacters → List ℕ → Type 0
-AllTaken taken callsign = AllPass (takenAt (lettersAlone taken)) 0 callsign
+AllTaken taken callsign = AllPass (takenAt (payloadAlphabet taken)) 0 callsign
 
 -- ---- The callsign with a number
 
@@ -104,9 +104,9 @@ module _ (channel : Channel) (a : ℕ) where
 
   pub callsignWith-legal : legalAt 0 (channel .first) ≡ true → legalAt 2 (channel .third) ≡ true → AllLegal 0 (callsignWith channel a)
   unfolding AllPass callsignWith charactersFrom overPlaces
-  callsignWith-legal first third =
+  callsignWith-legal taken third =
       let characters = legal-of-digits 0 _ (six-digits-at a) in
-      (first, (characters .1 .0, (third, characters .1 .1 .1)))
+      (taken, (characters .1 .0, (third, characters .1 .1 .1)))
 
   module _ (taken : FirstCharacters) (is-first : isFirstCharacter taken (channel .first) ≡ true) where
     all-taken : AllTaken taken (callsignWith channel a)
@@ -123,9 +123,9 @@ module _ (channel : Channel) (a : ℕ) where
           ),
         )
 
-    pub callsignWith-taken : firstNotTaken (lettersAlone taken) (callsignWith channel a) ≡ 6
+    pub callsignWith-taken : firstNotTaken (payloadAlphabet taken) (callsignWith channel a) ≡ 6
     unfolding firstNotTaken
-    callsignWith-taken = omega (arith, none-fails (takenAt (lettersAlone taken)) 0 _ all-taken, callsignWith-length)
+    callsignWith-taken = omega (arith, none-fails (takenAt (payloadAlphabet taken)) 0 _ all-taken, callsignWith-length)
 
 -- ---- The channel and the number in a callsign
 
@@ -167,10 +167,10 @@ module _ (callsign : List ℕ) (six : length callsign ≡ 6) where
   unfolding tabulate
   its-characters = by-places 6 callsign six
 
-  module _ (taken : FirstCharacters) (legal : AllLegal 0 callsign) (none : 6 ≤ firstNotTaken (lettersAlone taken) callsign) where
+  module _ (taken : FirstCharacters) (legal : AllLegal 0 callsign) (none : 6 ≤ firstNotTaken (payloadAlphabet taken) callsign) where
     its-taken : AllTaken taken callsign
     unfolding firstNotTaken
-    its-taken = all-pass (takenAt (lettersAlone taken)) 0 callsign (omega arith)
+    its-taken = all-pass (takenAt (payloadAlphabet taken)) 0 callsign (omega arith)
 
     -- The channel's characters are in range.
     pub first-of : isFirstCharacter taken (getD callsign 0 0) ≡ true

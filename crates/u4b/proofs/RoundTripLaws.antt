@@ -26,91 +26,91 @@ pub whole : (p : Payload) → p .upper < 632_736 → p .lower < 615_600 → writ
 unfolding writtenPart
 whole p h k = rw (upper-count, lower-count, mod-eq-of-lt h, mod-eq-of-lt k)
 
-module _ (first : FirstCharacters) (p : Payload) (power : ℕ) (w : Writable first p power) where
+module _ (taken : FirstCharacters) (p : Payload) (power : ℕ) (w : Writable taken p power) where
   -- What is written is a message of legal characters and power.
   written-legal : messageChecked (payloadCallsign p) (payloadLocator p) (powerWith (p .lower)) ≡ CheckAnswer.Legal
   unfolding payloadCallsign payloadLocator
   written-legal =
       let six = callsignWith-length (p .channel) (p .upper) in
       let four = locatorWith-length (p .lower) in
-      let callsign-legal = callsignWith-legal (p .channel) (p .upper) (first-legal first _ (w .is-first)) (third-legal _ (w .is-third)) in
+      let callsign-legal = callsignWith-legal (p .channel) (p .upper) (first-legal taken _ (w .is-first)) (third-legal _ (w .is-third)) in
       checked-legal _ _ _ (right-lengths (callsignWith (p .channel) (p .upper)) (locatorWith (p .lower)) six four)
       (legal-whole _ _ six four callsign-legal (locatorWith-legal (p .lower))) (powerWith-legal (p .lower))
 
-  written-read : payloadRead first (payloadCallsign p) (payloadLocator p) (powerWith (p .lower)) ≡ PayloadAnswer.Payload (writtenPart p)
+  written-read : payloadRead taken (payloadCallsign p) (payloadLocator p) (powerWith (p .lower)) ≡ PayloadAnswer.Payload (writtenPart p)
   unfolding payloadCallsign payloadLocator payloadOf writtenPart callsignWith
   written-read =
-      read-payload first _ _ _ written-legal (omega (arith, callsignWith-taken (p .channel) (p .upper) first (w .is-first)))
+      read-payload taken _ _ _ written-legal (omega (arith, callsignWith-taken (p .channel) (p .upper) taken (w .is-first)))
       ∙ rw (upperOf-callsignWith (p .channel) (p .upper), lowerOf-locatorWith (p .lower))
 
-pub read-write : (first : FirstCharacters) (p : Payload) (power : ℕ) → payloadMessage first p ≡ MessageAnswer.Power power
-    → payloadRead first (payloadCallsign p) (payloadLocator p) power ≡ PayloadAnswer.Payload (writtenPart p)
-read-write first p power e =
-    let w = writable first p power e in
-    rw (w .is-power) (written-read first p power w)
+pub read-write : (taken : FirstCharacters) (p : Payload) (power : ℕ) → payloadMessage taken p ≡ MessageAnswer.Power power
+    → payloadRead taken (payloadCallsign p) (payloadLocator p) power ≡ PayloadAnswer.Payload (writtenPart p)
+read-write taken p power e =
+    let w = writable taken p power e in
+    rw (w .is-power) (written-read taken p power w)
 
 -- ---- What was read writes back
 
-pub write-read : (first : FirstCharacters) (callsign locator : List ℕ) (power : ℕ) (p : Payload)
-    → payloadRead first callsign locator power ≡ PayloadAnswer.Payload p → PayloadWritesAs first p callsign locator power
+pub write-read : (taken : FirstCharacters) (callsign locator : List ℕ) (power : ℕ) (p : Payload)
+    → payloadRead taken callsign locator power ≡ PayloadAnswer.Payload p → PayloadWritesAs taken p callsign locator power
 unfolding payloadCallsign payloadLocator payloadOf
-write-read first callsign locator power p e =
-    let r = readable first callsign locator power p e in
+write-read taken callsign locator power p e =
+    let r = readable taken callsign locator power p e in
     let l = r .legal in
-    let is-first = first-of callsign (l .six) first (l .callsign-legal) (r .taken) in
-    let is-third = third-of callsign (l .six) first (l .callsign-legal) (r .taken) in
+    let is-first = first-of callsign (l .six) taken (l .callsign-legal) (r .all-taken) in
+    let is-third = third-of callsign (l .six) taken (l .callsign-legal) (r .all-taken) in
     let its-power = powerWith-lowerOf locator power (l .four) (l .locator-legal) (l .power-legal) in
     rw (r .is-payload) (record {
-      its-power = message-power first (payloadOf callsign locator power) is-first is-third ∙ ap MessageAnswer.Power its-power;
-      its-callsign = callsignWith-upperOf callsign (l .six) first (l .callsign-legal) (r .taken);
+      its-power = message-power taken (payloadOf callsign locator power) is-first is-third ∙ ap MessageAnswer.Power its-power;
+      its-callsign = callsignWith-upperOf callsign (l .six) taken (l .callsign-legal) (r .all-taken);
       its-locator = locatorWith-lowerOf locator power (l .four) (l .locator-legal) (l .power-legal);
     })
 
 -- ---- The reader refuses exactly what the writer never makes
 
-pub refuses-exactly : (first : FirstCharacters) (callsign locator : List ℕ) (power : ℕ)
-    → PayloadRefused (payloadRead first callsign locator power) ↔ NeverFromPayload first callsign locator power
-refuses-exactly first callsign locator power =
-    (λ refused p w. never refused p w, λ never-written. exact (payloadRead first callsign locator power) refl never-written)
+pub refuses-exactly : (taken : FirstCharacters) (callsign locator : List ℕ) (power : ℕ)
+    → PayloadRefused (payloadRead taken callsign locator power) ↔ NeverFromPayload taken callsign locator power
+refuses-exactly taken callsign locator power =
+    (λ refused p w. never refused p w, λ never-written. exact (payloadRead taken callsign locator power) refl never-written)
   where
-    never : PayloadRefused (payloadRead first callsign locator power) → (p : Payload) → PayloadWritesAs first p callsign locator power → ⊥
-    never refused p w = rw (sym (w .its-callsign), sym (w .its-locator), read-write first p power (w .its-power)) at refused
+    never : PayloadRefused (payloadRead taken callsign locator power) → (p : Payload) → PayloadWritesAs taken p callsign locator power → ⊥
+    never refused p w = rw (sym (w .its-callsign), sym (w .its-locator), read-write taken p power (w .its-power)) at refused
 
-    exact : (answer : PayloadAnswer) → payloadRead first callsign locator power ≡ answer → NeverFromPayload first callsign locator power → PayloadRefused answer
-    exact (PayloadAnswer.Payload p) e never-written = never-written p (write-read first callsign locator power p e)
+    exact : (answer : PayloadAnswer) → payloadRead taken callsign locator power ≡ answer → NeverFromPayload taken callsign locator power → PayloadRefused answer
+    exact (PayloadAnswer.Payload p) e never-written = never-written p (write-read taken callsign locator power p e)
     exact (PayloadAnswer.Refused f) e never-written = tt
 
 -- ---- What the functions promise, from their answers and what the lent buffers then hold
 
-module _ (first : FirstCharacters) (callsign locator : List ℕ) (p : Payload) where
+module _ (taken : FirstCharacters) (callsign locator : List ℕ) (p : Payload) where
   abbrev pub WritePromised : MessageAnswer → List ℕ → List ℕ → Type 0
   WritePromised answer its-callsign its-locator =
-      (answer ≡ payloadWritten first callsign locator p)
-      × ((messageNumbers answer ≡ messageNumbers (payloadWritten first callsign locator p))
-      × ((its-callsign ≡ callsignAfterPayload first callsign locator p)
-      × ((its-locator ≡ locatorAfterPayload first callsign locator p) × PayloadReadsBack answer first p its-callsign its-locator)))
+      (answer ≡ payloadWritten taken callsign locator p)
+      × ((messageNumbers answer ≡ messageNumbers (payloadWritten taken callsign locator p))
+      × ((its-callsign ≡ callsignAfterPayload taken callsign locator p)
+      × ((its-locator ≡ locatorAfterPayload taken callsign locator p) × PayloadReadsBack answer taken p its-callsign its-locator)))
 
-  reads-back : (answer : MessageAnswer) → payloadWritten first callsign locator p ≡ answer
-      → PayloadReadsBack answer first p (contentAfter answer callsign (payloadCallsign p)) (contentAfter answer locator (payloadLocator p))
+  reads-back : (answer : MessageAnswer) → payloadWritten taken callsign locator p ≡ answer
+      → PayloadReadsBack answer taken p (contentAfter answer callsign (payloadCallsign p)) (contentAfter answer locator (payloadLocator p))
   unfolding contentAfter
-  reads-back (MessageAnswer.Power power) e = read-write first p power (message-of-written first callsign locator p power e)
+  reads-back (MessageAnswer.Power power) e = read-write taken p power (message-of-written taken callsign locator p power e)
   reads-back (MessageAnswer.Refused f) e = tt
 
-  pub write-promised : (answer : MessageAnswer) → payloadWritten first callsign locator p ≡ answer
+  pub write-promised : (answer : MessageAnswer) → payloadWritten taken callsign locator p ≡ answer
       → WritePromised answer (contentAfter answer callsign (payloadCallsign p)) (contentAfter answer locator (payloadLocator p))
   unfolding callsignAfterPayload locatorAfterPayload
   write-promised answer e = (sym e, (rw e, (rw e, (rw e, reads-back answer e))))
 
-module _ (first : FirstCharacters) (callsign locator : List ℕ) (power : ℕ) where
+module _ (taken : FirstCharacters) (callsign locator : List ℕ) (power : ℕ) where
   abbrev pub ReadPromised : PayloadAnswer → Type 0
   ReadPromised answer =
-      (answer ≡ payloadRead first callsign locator power)
-      × ((payloadNumbers answer ≡ payloadNumbers (payloadRead first callsign locator power))
-      × (PayloadWritesBack answer first callsign locator power × PayloadRefusedExactly answer first callsign locator power))
+      (answer ≡ payloadRead taken callsign locator power)
+      × ((payloadNumbers answer ≡ payloadNumbers (payloadRead taken callsign locator power))
+      × (PayloadWritesBack answer taken callsign locator power × PayloadRefusedExactly answer taken callsign locator power))
 
-  writes-back : (answer : PayloadAnswer) → payloadRead first callsign locator power ≡ answer → PayloadWritesBack answer first callsign locator power
-  writes-back (PayloadAnswer.Payload p) e = write-read first callsign locator power p e
+  writes-back : (answer : PayloadAnswer) → payloadRead taken callsign locator power ≡ answer → PayloadWritesBack answer taken callsign locator power
+  writes-back (PayloadAnswer.Payload p) e = write-read taken callsign locator power p e
   writes-back (PayloadAnswer.Refused f) e = tt
 
-  pub read-promised : (answer : PayloadAnswer) → payloadRead first callsign locator power ≡ answer → ReadPromised answer
-  read-promised answer e = (sym e, (rw e, (writes-back answer e, rw e at (refuses-exactly first callsign locator power))))
+  pub read-promised : (answer : PayloadAnswer) → payloadRead taken callsign locator power ≡ answer → ReadPromised answer
+  read-promised answer e = (sym e, (rw e, (writes-back answer e, rw e at (refuses-exactly taken callsign locator power))))

@@ -7,11 +7,11 @@ use Rattle.basics.specs.Lists.{firstFailing}
 use Rattle.u4b.specs.Channel.{isFirstCharacter}
 use Rattle.u4b.specs.declared.alphabet.Alphabet.{Alphabet}
 
--- A legal character is taken at its place, unless 10 names it: "first character isn't 0, 1, Q, or a space in places 3 to 5". Where a space
--- may stand last, it is taken in place 5. In ASCII the space is 32.
+-- A legal character is taken at its place, unless 10 names it: "first character isn't 0, 1, Q, or a space in places 3 to 5". So it is in
+-- basic telemetry, the one kind that 01 has; a kind where a space may stand last takes it in place 5. In ASCII the space is 32.
 unfoldable pub takenAt : Alphabet → ℕ → ℕ → Bool
 takenAt alphabet place byte =
-    cond (eqb place 0) (isFirstCharacter (alphabet .first) byte)
+    cond (eqb place 0) (isFirstCharacter (alphabet .taken) byte)
     (ltb place 3 || ((eqb place 5 && alphabet .«last_space») || not (eqb byte 32)))
 
 -- The first place of a callsign whose character isn't taken there; past the last where there is none.

@@ -21,8 +21,8 @@ use Rattle.u4b.specs.declared.PayloadAnswer.{PayloadAnswer}
 
 -- The power of the message, or why nothing is written. 14: "0 first character, 1 third"
 unfoldable pub payloadMessage : FirstCharacters → Payload → MessageAnswer
-payloadMessage first payload =
-    cond (not (isFirstCharacter first (payload .channel .first))) (MessageAnswer.Refused (refusal outOfRange 0))
+payloadMessage taken payload =
+    cond (not (isFirstCharacter taken (payload .channel .first))) (MessageAnswer.Refused (refusal outOfRange 0))
     (cond (not (isThirdCharacter (payload .channel .third))) (MessageAnswer.Refused (refusal outOfRange 1))
     (MessageAnswer.Power (powerWith (payload .lower))))
 
@@ -36,20 +36,20 @@ payloadLocator payload = locatorWith (payload .lower)
 
 -- The answer, given what the lent callsign and locator hold.
 unfoldable pub payloadWritten : FirstCharacters → List ℕ → List ℕ → Payload → MessageAnswer
-payloadWritten first callsign locator payload =
-    cond (not (rightLengths (length callsign) (length locator))) (MessageAnswer.Refused (refusal wrongLength 0)) (payloadMessage first payload)
+payloadWritten taken callsign locator payload =
+    cond (not (rightLengths (length callsign) (length locator))) (MessageAnswer.Refused (refusal wrongLength 0)) (payloadMessage taken payload)
 
 -- What the lent callsign then holds.
 unfoldable pub callsignAfterPayload : FirstCharacters → List ℕ → List ℕ → Payload → List ℕ
-callsignAfterPayload first callsign locator payload =
-    contentAfter (payloadWritten first callsign locator payload) callsign (payloadCallsign payload)
+callsignAfterPayload taken callsign locator payload =
+    contentAfter (payloadWritten taken callsign locator payload) callsign (payloadCallsign payload)
 
 -- What the lent locator then holds.
 unfoldable pub locatorAfterPayload : FirstCharacters → List ℕ → List ℕ → Payload → List ℕ
-locatorAfterPayload first callsign locator payload =
-    contentAfter (payloadWritten first callsign locator payload) locator (payloadLocator payload)
+locatorAfterPayload taken callsign locator payload =
+    contentAfter (payloadWritten taken callsign locator payload) locator (payloadLocator payload)
 
--- ---- Reading: "telemetry reading 1, 2, 3, 10"
+-- ---- Reading: "telemetry reading 1, 2, 3, 10, .."
 
 -- The channel's characters and the two numbers of a message.
 unfoldable pub payloadOf : List ℕ → List ℕ → ℕ → Payload
@@ -60,22 +60,22 @@ payloadOf callsign locator power = record {
 }
 
 -- In places 3 to 5 the numbers stand in letters alone.
-abbrev pub lettersAlone : FirstCharacters → Alphabet
-lettersAlone first = record { first = first; «last_space» = false }
+abbrev pub payloadAlphabet : FirstCharacters → Alphabet
+payloadAlphabet taken = record { taken = taken; «last_space» = false }
 
 -- 10: "first character isn't 0, 1, Q, or a space in places 3 to 5"
 unfoldable pub messagePayload : FirstCharacters → List ℕ → List ℕ → ℕ → PayloadAnswer
-messagePayload first callsign locator power =
-    let place = firstNotTaken (lettersAlone first) callsign in
+messagePayload taken callsign locator power =
+    let place = firstNotTaken (payloadAlphabet taken) callsign in
     cond (ltb place 6) (PayloadAnswer.Refused (refusal notTelemetry place)) (PayloadAnswer.Payload (payloadOf callsign locator power))
 
 -- 1, 2 and 3 are those of any message: the answer where it is legal, else its refusal.
-unfoldable pub ifLegal : CheckAnswer → PayloadAnswer → PayloadAnswer
-ifLegal CheckAnswer.Legal answer = answer
-ifLegal (CheckAnswer.Refused f) answer = PayloadAnswer.Refused f
+unfoldable pub payloadIfLegal : CheckAnswer → PayloadAnswer → PayloadAnswer
+payloadIfLegal CheckAnswer.Legal answer = answer
+payloadIfLegal (CheckAnswer.Refused f) answer = PayloadAnswer.Refused f
 
 unfoldable pub payloadRead : FirstCharacters → List ℕ → List ℕ → ℕ → PayloadAnswer
-payloadRead first callsign locator power = ifLegal (messageChecked callsign locator power) (messagePayload first callsign locator power)
+payloadRead taken callsign locator power = payloadIfLegal (messageChecked callsign locator power) (messagePayload taken callsign locator power)
 
 -- ---- The result numbers of an answer: 0 where it has none
 

@@ -7,7 +7,8 @@ use Rattle.u4b.specs.declared.channel.Channel.{Channel}
 use Rattle.u4b.specs.declared.channel.SubSquare.{SubSquare}
 use Rattle.u4b.specs.declared.channel.FirstCharacters.{FirstCharacters}
 
--- "First character 0, 1 or Q": in ASCII 48, 49 and 81. Another kind of telemetry takes 0 and Q alone.
+-- "First character 0, 1 or Q": in ASCII 48, 49 and 81. That is what basic telemetry takes, the one kind that 01 has; other kinds take 0 and
+-- Q alone.
 unfoldable pub isFirstCharacter : FirstCharacters → ℕ → Bool
 isFirstCharacter FirstCharacters.ZeroOneQ byte = eqb byte 48 || (eqb byte 49 || eqb byte 81)
 isFirstCharacter FirstCharacters.ZeroQ byte = eqb byte 48 || eqb byte 81

@@ -12,7 +12,7 @@ use Rattle.u4b.specs.declared.channel.FirstCharacters.{FirstCharacters}
 use Rattle.u4b.specs.declared.Payload.{Payload}
 use Rattle.u4b.specs.declared.PayloadAnswer.{PayloadAnswer}
 
--- What is written of a payload: of each number only what is below its end, 632,736 and 615,600 (`upper-count`, `lower-count`).
+-- What is written of a payload: each number modulo its count, 632,736 and 615,600 (`upper-count`, `lower-count`).
 unfoldable pub writtenPart : Payload → Payload
 writtenPart payload = record {
   channel = payload .channel;
@@ -21,21 +21,21 @@ writtenPart payload = record {
 }
 
 -- This message is written from the payload.
-pub record PayloadWritesAs (first : FirstCharacters) (payload : Payload) (callsign locator : List ℕ) (power : ℕ) : Type 0 where
-  pub its-power : payloadMessage first payload ≡ MessageAnswer.Power power
+pub record PayloadWritesAs (taken : FirstCharacters) (payload : Payload) (callsign locator : List ℕ) (power : ℕ) : Type 0 where
+  pub its-power : payloadMessage taken payload ≡ MessageAnswer.Power power
   pub its-callsign : payloadCallsign payload ≡ callsign
   pub its-locator : payloadLocator payload ≡ locator
 
 -- What was written reads back: the callsign and locator with the answer's power, where it has one.
 abbrev pub PayloadReadsBack : MessageAnswer → FirstCharacters → Payload → List ℕ → List ℕ → Type 0
-PayloadReadsBack (MessageAnswer.Power p) first payload callsign locator =
-    payloadRead first callsign locator p ≡ PayloadAnswer.Payload (writtenPart payload)
-PayloadReadsBack (MessageAnswer.Refused f) first payload callsign locator = Unit
+PayloadReadsBack (MessageAnswer.Power p) taken payload callsign locator =
+    payloadRead taken callsign locator p ≡ PayloadAnswer.Payload (writtenPart payload)
+PayloadReadsBack (MessageAnswer.Refused f) taken payload callsign locator = Unit
 
 -- What was read writes back: the answer's payload, where it has one, writes the same message.
 abbrev pub PayloadWritesBack : PayloadAnswer → FirstCharacters → List ℕ → List ℕ → ℕ → Type 0
-PayloadWritesBack (PayloadAnswer.Payload p) first callsign locator power = PayloadWritesAs first p callsign locator power
-PayloadWritesBack (PayloadAnswer.Refused f) first callsign locator power = Unit
+PayloadWritesBack (PayloadAnswer.Payload p) taken callsign locator power = PayloadWritesAs taken p callsign locator power
+PayloadWritesBack (PayloadAnswer.Refused f) taken callsign locator power = Unit
 
 -- The answer is a refusal.
 abbrev pub PayloadRefused : PayloadAnswer → Type 0
@@ -45,8 +45,8 @@ PayloadRefused (PayloadAnswer.Refused f) = Unit
 -- No payload writes this message. Characters that are no bytes are never taken, and a number that is no u64 writes what its part below the
 -- end writes, so that nothing is added by naming them here.
 abbrev pub NeverFromPayload : FirstCharacters → List ℕ → List ℕ → ℕ → Type 0
-NeverFromPayload first callsign locator power = (payload : Payload) → PayloadWritesAs first payload callsign locator power → ⊥
+NeverFromPayload taken callsign locator power = (payload : Payload) → PayloadWritesAs taken payload callsign locator power → ⊥
 
 -- The answer is a refusal exactly where no payload writes the message.
 abbrev pub PayloadRefusedExactly : PayloadAnswer → FirstCharacters → List ℕ → List ℕ → ℕ → Type 0
-PayloadRefusedExactly answer first callsign locator power = PayloadRefused answer ↔ NeverFromPayload first callsign locator power
+PayloadRefusedExactly answer taken callsign locator power = PayloadRefused answer ↔ NeverFromPayload taken callsign locator power

@@ -6,7 +6,7 @@ use super::channel::is_first_character;
 
 // The characters that are taken as the first, and whether a space may stand last, in place 5.
 pub struct Alphabet {
-    pub first: FirstCharacters,
+    pub taken: FirstCharacters,
     pub last_space: bool,
 }
 
@@ -14,9 +14,9 @@ pub struct Alphabet {
 fn is_taken_at(alphabet: Alphabet, place: usize, byte: u8) -> bool
     ensures { λ r. ⌜ r ≡ takenAt alphabet place byte ⌝ }
 {
-    let first = alphabet.first;
+    let taken = alphabet.taken;
     match place {
-        0 => is_first_character(first, byte),
+        0 => is_first_character(taken, byte),
         1 | 2 => true,
         5 => alphabet.last_space || byte != b' ',
         _ => byte != b' ',

@@ -33,19 +33,19 @@ pub enum PayloadAnswer {
     Refused(Refusal),
 }
 
-// The message of a payload: its callsign and locator are written, its power is the answer. Of each
-// number only what is below its end is written.
+// The message of a payload: its callsign and locator are written, its power is the answer. Each number
+// is written modulo its count.
 pub fn write(
-    first: FirstCharacters,
+    taken: FirstCharacters,
     payload: Payload,
     callsign: &mut [u8],
     locator: &mut [u8],
 ) -> MessageAnswer
-    ensures answer { λ r. ⌜ r ≡ payloadWritten first (now (callsign .entry)) (now (locator .entry)) payload ⌝ }
-    ensures numbers { λ r. ⌜ messageNumbers r ≡ messageNumbers (payloadWritten first (now (callsign .entry)) (now (locator .entry)) payload) ⌝ }
-    ensures callsign_after { λ _. ⌜ now (callsign .exit) ≡ callsignAfterPayload first (now (callsign .entry)) (now (locator .entry)) payload ⌝ }
-    ensures locator_after { λ _. ⌜ now (locator .exit) ≡ locatorAfterPayload first (now (callsign .entry)) (now (locator .entry)) payload ⌝ }
-    ensures reads_back { λ r. ⌜ PayloadReadsBack r first payload (now (callsign .exit)) (now (locator .exit)) ⌝ }
+    ensures answer { λ r. ⌜ r ≡ payloadWritten taken (now (callsign .entry)) (now (locator .entry)) payload ⌝ }
+    ensures numbers { λ r. ⌜ messageNumbers r ≡ messageNumbers (payloadWritten taken (now (callsign .entry)) (now (locator .entry)) payload) ⌝ }
+    ensures callsign_after { λ _. ⌜ now (callsign .exit) ≡ callsignAfterPayload taken (now (callsign .entry)) (now (locator .entry)) payload ⌝ }
+    ensures locator_after { λ _. ⌜ now (locator .exit) ≡ locatorAfterPayload taken (now (callsign .entry)) (now (locator .entry)) payload ⌝ }
+    ensures reads_back { λ r. ⌜ PayloadReadsBack r taken payload (now (callsign .exit)) (now (locator .exit)) ⌝ }
 {
     if !message::right_lengths(callsign.len(), locator.len()) {
         return MessageAnswer::Refused(Refusal {
@@ -54,7 +54,7 @@ pub fn write(
         });
     }
     let channel = payload.channel;
-    if !channel::is_first_character(first, channel.first) {
+    if !channel::is_first_character(taken, channel.first) {
         return MessageAnswer::Refused(Refusal {
             number: OUT_OF_RANGE,
             place: 0,
@@ -71,11 +71,11 @@ pub fn write(
 }
 
 // The payload of a message.
-pub fn read(first: FirstCharacters, callsign: &[u8], locator: &[u8], power: u32) -> PayloadAnswer
-    ensures answer { λ r. ⌜ r ≡ payloadRead first (now (callsign .entry)) (now (locator .entry)) power ⌝ }
-    ensures numbers { λ r. ⌜ payloadNumbers r ≡ payloadNumbers (payloadRead first (now (callsign .entry)) (now (locator .entry)) power) ⌝ }
-    ensures writes_back { λ r. ⌜ PayloadWritesBack r first (now (callsign .entry)) (now (locator .entry)) power ⌝ }
-    ensures refuses_exactly { λ r. ⌜ PayloadRefusedExactly r first (now (callsign .entry)) (now (locator .entry)) power ⌝ }
+pub fn read(taken: FirstCharacters, callsign: &[u8], locator: &[u8], power: u32) -> PayloadAnswer
+    ensures answer { λ r. ⌜ r ≡ payloadRead taken (now (callsign .entry)) (now (locator .entry)) power ⌝ }
+    ensures numbers { λ r. ⌜ payloadNumbers r ≡ payloadNumbers (payloadRead taken (now (callsign .entry)) (now (locator .entry)) power) ⌝ }
+    ensures writes_back { λ r. ⌜ PayloadWritesBack r taken (now (callsign .entry)) (now (locator .entry)) power ⌝ }
+    ensures refuses_exactly { λ r. ⌜ PayloadRefusedExactly r taken (now (callsign .entry)) (now (locator .entry)) power ⌝ }
 {
     let checked = message::check(callsign, locator, power);
     if let CheckAnswer::Refused(refusal) = checked {
@@ -83,7 +83,7 @@ pub fn read(first: FirstCharacters, callsign: &[u8], locator: &[u8], power: u32)
     }
     // In places 3 to 5 the numbers stand in letters alone.
     let alphabet = Alphabet {
-        first,
+        taken,
         last_space: false,
     };
     let place = alphabet::first_not_taken(alphabet, callsign);

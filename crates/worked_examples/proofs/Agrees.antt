@@ -15,11 +15,11 @@ use Rattle.message.specs.Answer.{rightLengths, messageChecked, messageNumbers}
 use Rattle.u4b.specs.Channel.{isFirstCharacter}
 use Rattle.u4b.specs.Alphabet.{takenAt, firstNotTaken}
 use Rattle.u4b.specs.Characters.{upperRadices, callsignWith, upperDigits, upperOf, lowerRadices, locatorWith, powerWith, lowerOf}
-use Rattle.u4b.specs.Answer.{payloadMessage, payloadCallsign, payloadLocator, payloadOf, messagePayload, ifLegal, payloadRead}
+use Rattle.u4b.specs.Answer.{payloadMessage, payloadCallsign, payloadLocator, payloadOf, messagePayload, payloadIfLegal, payloadRead}
 use Rattle.telemetry.specs.Ranges.{temperatureInRange, inRanges, firstOutOfRange}
 use Rattle.telemetry.specs.Codes.{altitudeCode, temperatureCode, voltageCode, speedCode, millivolts}
 use Rattle.telemetry.specs.Payload.{positionRadices, positionDigits, positionNumber, sensorRadices, sensorDigits, sensorNumber, payloadFrom}
-use Rattle.telemetry.specs.Answer.{measuredMessage, measuredCallsign, measuredLocator, numbersTelemetry, basicTelemetry, telemetryIfPayload, telemetryRead, telemetryNumbers}
+use Rattle.telemetry.specs.Answer.{measuredMessage, measuredCallsign, measuredLocator, payloadTelemetry, basicTelemetry, telemetryIfPayload, telemetryRead, telemetryNumbers}
 use Rattle.worked_examples.specs.Table.{Row, number, text, refused, measuredAt, writeRefused, readRefused, examples, Agrees}
 
 abbrev same : Row → Bool
@@ -38,7 +38,7 @@ unfolding sameList firstFailing count numberOf numberFrom digitsOf powers indexI
     callsignSets locatorSets setAt legalAt digitAt characterAt overPlaces digitsFrom charactersFrom callsignRadices callsignNumber
     locatorNumberFrom locatorNumber lowerNumber rightLengths messageChecked messageNumbers isFirstCharacter takenAt firstNotTaken upperRadices
     callsignWith upperDigits upperOf lowerRadices locatorWith powerWith lowerOf payloadMessage payloadCallsign payloadLocator payloadOf
-    messagePayload ifLegal payloadRead temperatureInRange inRanges firstOutOfRange altitudeCode temperatureCode voltageCode speedCode
+    messagePayload payloadIfLegal payloadRead temperatureInRange inRanges firstOutOfRange altitudeCode temperatureCode voltageCode speedCode
     millivolts positionRadices positionDigits positionNumber sensorRadices sensorDigits sensorNumber payloadFrom measuredMessage
-    measuredCallsign measuredLocator numbersTelemetry basicTelemetry telemetryIfPayload telemetryRead telemetryNumbers bytes number text refused measuredAt writeRefused readRefused examples
+    measuredCallsign measuredLocator payloadTelemetry basicTelemetry telemetryIfPayload telemetryRead telemetryNumbers bytes number text refused measuredAt writeRefused readRefused examples
 examples-agree = agree examples refl

@@ -7,7 +7,7 @@ ghost use Rattle.frame.specs.Answer.{writeNumbers, wordWritten, messageWritten,
 ghost use Rattle.frame.specs.RoundTrip.{WordReadsBack, WordWritesBack, WordRefusedExactly, NoWordRefused, MessageReadsBack, MessageWritesBack, MessageRefusedExactly};
 ghost use Rattle.repair.specs.Answer.{frameRepaired, repairNumbers};
 ghost use Rattle.repair.specs.Demand.{AsChecked, AsDemanded, TwoFlipsRepaired};
-ghost use Rattle.telemetry.specs.Answer.{telemetryWritten, telemetryRead, telemetryNumbers, callsignAfterWrite, locatorAfterWrite};
+ghost use Rattle.telemetry.specs.Answer.{telemetryWritten, telemetryRead, telemetryNumbers, callsignAfterTelemetry, locatorAfterTelemetry};
 ghost use Rattle.telemetry.specs.RoundTrip.{TelemetryReadsBack, TelemetryWritesBack, TelemetryRefusedExactly};
 ghost use Rattle.wsprcard.specs.Results.{writtenResult, wordResult, messageResult, repairedResult, readingResult, writeAnswerIn, wordAnswerIn, messageAnswerIn, repairAnswerIn, telemetryAnswerIn, measuredFrom};
 use frame::WriteAnswer;
@@ -272,8 +272,8 @@ pub extern "C" fn u4b_write(
     locator: &mut [u8],
 ) -> WsprMessage
     ensures answer { λ r. ⌜ r ≡ messageResult (messageNumbers (telemetryWritten (now (callsign .entry)) (now (locator .entry)) (measuredFrom first third grid5 grid6 altitude temperature voltage speed gps))) ⌝ }
-    ensures callsign_after { λ _. ⌜ now (callsign .exit) ≡ callsignAfterWrite (now (callsign .entry)) (now (locator .entry)) (measuredFrom first third grid5 grid6 altitude temperature voltage speed gps) ⌝ }
-    ensures locator_after { λ _. ⌜ now (locator .exit) ≡ locatorAfterWrite (now (callsign .entry)) (now (locator .entry)) (measuredFrom first third grid5 grid6 altitude temperature voltage speed gps) ⌝ }
+    ensures callsign_after { λ _. ⌜ now (callsign .exit) ≡ callsignAfterTelemetry (now (callsign .entry)) (now (locator .entry)) (measuredFrom first third grid5 grid6 altitude temperature voltage speed gps) ⌝ }
+    ensures locator_after { λ _. ⌜ now (locator .exit) ≡ locatorAfterTelemetry (now (callsign .entry)) (now (locator .entry)) (measuredFrom first third grid5 grid6 altitude temperature voltage speed gps) ⌝ }
     ensures reads_back { λ r. ⌜ TelemetryReadsBack (messageAnswerIn r) (measuredFrom first third grid5 grid6 altitude temperature voltage speed gps) (now (callsign .exit)) (now (locator .exit)) ⌝ }
 {
     let measured = Measured {

@@ -1,10 +1,10 @@
 -- `telemetry::read_word` meets its contract: the word's message is unpacked into buffers of the right lengths, and read.
 -- Assumes nothing.
-use mathlib.Core.Path.{refl, sym, ap, _∙_}
+use mathlib.Core.Path.{refl, sym, _∙_}
 use borrow.Author.Needs.{needs}
 use Rattle.message.specs.Answer.{rightLengths}
-use Rattle.telemetry.specs.Answer.{telemetryNumbers}
 use Rattle.telemetry.proofs.AnswerLaws.{word-refused, word-read}
+use Rattle.telemetry.proofs.RoundTripLaws.{word-promised}
 use Rattle.telemetry.proofs.read_word.Statement.{statement}
 use Rattle.telemetry.proofs.read_word.Tie as tie
 
@@ -39,16 +39,15 @@ returns c =
     let u = k .before .before .before .before in
     let (answer, (numbers, (callsign, (locator, promised)))) = u .unpack .ensures in
     let read = word-read _ _ (u .before .before .before .args .word) refl _ (sym answer ∙ k .power .given .1) in
-    let same = rw (callsign, locator) at (c .read .ensures .0) ∙ sym read in
-    (same, ap telemetryNumbers same)
+    word-promised (u .before .before .before .args .word) _ (read ∙ sym (rw (callsign, locator) at (c .read .ensures .0)))
 
 returns-2 : tie.Need-returns-2
 unfolding rightLengths
 returns-2 c =
     let k = c .before in
     let u = k .before .before .before .before in
-    let same = sym (word-refused _ _ (u .before .before .before .args .word) refl _ (sym (u .unpack .ensures .0) ∙ k .refusal .given .1)) in
-    (same, ap telemetryNumbers same)
+    word-promised (u .before .before .before .args .word) _
+    (word-refused _ _ (u .before .before .before .args .word) refl _ (sym (u .unpack .ensures .0) ∙ k .refusal .given .1))
 
 pub read-word-spec : {M : Type 1} → statement M
 read-word-spec =

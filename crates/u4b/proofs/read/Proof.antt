@@ -37,8 +37,8 @@ returns : tie.Need-returns
 returns c =
     let p = c .before .before .before in
     let a = p .before .before .before .args in
-    read-promised (a .first) (a .callsign .now) (a .locator .now) (a .power) _
-    (read-illegal (a .first) (a .callsign .now) (a .locator .now) (a .power) _ (sym (p .check .ensures .0) ∙ c .before .checked .given .1))
+    read-promised (a .taken) (a .callsign .now) (a .locator .now) (a .power) _
+    (read-illegal (a .taken) (a .callsign .now) (a .locator .now) (a .power) _ (sym (p .check .ensures .0) ∙ c .before .checked .given .1))
 
 enum-told : tie.Need-enum-told
 enum-told c = search needs
@@ -53,8 +53,8 @@ returns-2 : tie.Need-returns-2
 returns-2 c =
     let k = c .before .before in
     let a = k .before .before .before .before .before .args in
-    read-promised (a .first) (a .callsign .now) (a .locator .now) (a .power) _
-    (read-not-taken (a .first) (a .callsign .now) (a .locator .now) (a .power) (is-checked k) _ (sym (c .before .first-not-taken .ensures)) (c .if1 .taken))
+    read-promised (a .taken) (a .callsign .now) (a .locator .now) (a .power) _
+    (read-not-taken (a .taken) (a .callsign .now) (a .locator .now) (a .power) (is-checked k) _ (sym (c .before .first-not-taken .ensures)) (c .if1 .taken))
 
 shared-slice-read-t13 : tie.Need-shared-slice-read-t13
 shared-slice-read-t13 c =
@@ -72,7 +72,7 @@ upper-of-requires c κs =
     let k = e .before .before in
     let a = k .before .before .before .before .before .args in
     let l = its-legal k in
-    (l .six, upper-digits-in (a .callsign .now) (l .six) (a .first) (l .callsign-legal) (omega (arith, e .before .first-not-taken .ensures)))
+    (l .six, upper-digits-in (a .callsign .now) (l .six) (a .taken) (l .callsign-legal) (omega (arith, e .before .first-not-taken .ensures)))
 
 lower-of-requires : tie.Need-lower-of-requires
 lower-of-requires c κs =
@@ -87,8 +87,8 @@ returns-3 c =
     let k = e .before .before in
     let a = k .before .before .before .before .before .args in
     rw (u .upper-of .ensures, c .lower-of .ensures)
-    (read-promised (a .first) (a .callsign .now) (a .locator .now) (a .power) _
-    (read-payload (a .first) (a .callsign .now) (a .locator .now) (a .power) (is-checked k) (omega (arith, e .before .first-not-taken .ensures))))
+    (read-promised (a .taken) (a .callsign .now) (a .locator .now) (a .power) _
+    (read-payload (a .taken) (a .callsign .now) (a .locator .now) (a .power) (is-checked k) (omega (arith, e .before .first-not-taken .ensures))))
 
 pub read-spec : {M : Type 1} → statement M
 read-spec =

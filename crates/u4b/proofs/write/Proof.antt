@@ -22,7 +22,7 @@ right c = sym (c .before .right-lengths .ensures) ∙ not-false _ (c .if1 .left)
 
 -- past the second the first character is taken,
 its-first : (c : tie.Else2) → let a = c .before .before .before .before .before .before .before .args in
-    isFirstCharacter (a .first) (a .payload .channel .first) ≡ true
+    isFirstCharacter (a .taken) (a .payload .channel .first) ≡ true
 its-first c = sym (c .before .is-first-character .ensures) ∙ not-false _ (c .if2 .left)
 
 -- and past the third so is the third.
@@ -37,8 +37,8 @@ returns : tie.Need-returns
 unfolding contentAfter
 returns c =
     let a = c .before .before .before .before .args in
-    write-promised (a .first) (a .callsign .now) (a .locator .now) (a .payload) _
-    (written-length (a .first) (a .callsign .now) (a .locator .now) (a .payload) (sym (c .before .right-lengths .ensures) ∙ not-true _ (c .if1 .taken)))
+    write-promised (a .taken) (a .callsign .now) (a .locator .now) (a .payload) _
+    (written-length (a .taken) (a .callsign .now) (a .locator .now) (a .payload) (sym (c .before .right-lengths .ensures) ∙ not-true _ (c .if1 .taken)))
 
 is-first-character-requires : tie.Need-is-first-character-requires
 is-first-character-requires c κs = search needs
@@ -48,9 +48,9 @@ unfolding contentAfter
 returns-2 c =
     let e = c .before .before .before in
     let a = e .before .before .before .before .args in
-    write-promised (a .first) (a .callsign .now) (a .locator .now) (a .payload) _
-    (written-message (a .first) (a .callsign .now) (a .locator .now) (a .payload) (right e)
-    ∙ message-first (a .first) (a .payload) (sym (c .before .is-first-character .ensures) ∙ not-true _ (c .if2 .taken)))
+    write-promised (a .taken) (a .callsign .now) (a .locator .now) (a .payload) _
+    (written-message (a .taken) (a .callsign .now) (a .locator .now) (a .payload) (right e)
+    ∙ message-first (a .taken) (a .payload) (sym (c .before .is-first-character .ensures) ∙ not-true _ (c .if2 .taken)))
 
 is-third-character-requires : tie.Need-is-third-character-requires
 is-third-character-requires c κs = search needs
@@ -61,9 +61,9 @@ returns-3 c =
     let f = c .before .before in
     let e = f .before .before .before in
     let a = e .before .before .before .before .args in
-    write-promised (a .first) (a .callsign .now) (a .locator .now) (a .payload) _
-    (written-message (a .first) (a .callsign .now) (a .locator .now) (a .payload) (right e)
-    ∙ message-third (a .first) (a .payload) (its-first f) (sym (c .before .is-third-character .ensures) ∙ not-true _ (c .if3 .taken)))
+    write-promised (a .taken) (a .callsign .now) (a .locator .now) (a .payload) _
+    (written-message (a .taken) (a .callsign .now) (a .locator .now) (a .payload) (right e)
+    ∙ message-third (a .taken) (a .payload) (its-first f) (sym (c .before .is-third-character .ensures) ∙ not-true _ (c .if3 .taken)))
 
 write-callsign-requires : tie.Need-write-callsign-requires
 write-callsign-requires c κs =
@@ -96,10 +96,10 @@ returns-4 c =
     let f = t .before .before in
     let e = f .before .before .before in
     let a = e .before .before .before .before .args in
-    let power = message-power (a .first) (a .payload) (its-first f) (its-third t) ∙ ap MessageAnswer.Power (sym (l .write-locator .ensures .0)) in
+    let power = message-power (a .taken) (a .payload) (its-first f) (its-third t) ∙ ap MessageAnswer.Power (sym (l .write-locator .ensures .0)) in
     rw (w .write-callsign .ensures, l .write-locator .ensures .1)
-    (write-promised (a .first) (a .callsign .now) (a .locator .now) (a .payload) _
-    (written-message (a .first) (a .callsign .now) (a .locator .now) (a .payload) (right e) ∙ power))
+    (write-promised (a .taken) (a .callsign .now) (a .locator .now) (a .payload) _
+    (written-message (a .taken) (a .callsign .now) (a .locator .now) (a .payload) (right e) ∙ power))
 
 pub write-spec : {M : Type 1} → statement M
 write-spec =

@@ -9,11 +9,11 @@ use Rattle.telemetry.proofs.codes.read_basic.Tie as tie
 returns : tie.Need-returns
 returns c = sym (basic-extended (c .before .before .args .payload) (c .if1 .taken))
 
-read-numbers-requires : tie.Need-read-numbers-requires
-read-numbers-requires c κs = search needs
+read-payload-requires : tie.Need-read-payload-requires
+read-payload-requires c κs = search needs
 
 returns-2 : tie.Need-returns-2
-returns-2 c = c .read-numbers .ensures ∙ sym (basic-numbers (c .before .before .before .args .payload) (c .before .if1 .left))
+returns-2 c = c .read-payload .ensures ∙ sym (basic-numbers (c .before .before .before .args .payload) (c .before .if1 .left))
 
 pub read-basic-spec : {M : Type 1} → statement M
-read-basic-spec = tie.close (tie.spec returns read-numbers-requires returns-2)
+read-basic-spec = tie.close (tie.spec returns read-payload-requires returns-2)

@@ -56,7 +56,7 @@ start-9 c = start-8 (c .before .before)
 
 -- Past so many tests, the first place out of range is among the others.
 abbrev Past : tie.Start → ℕ → Type 0
-Past s n = Searching isTrue (inRanges (s .args .first) (s .args .m)) n
+Past s n = Searching isTrue (inRanges (s .args .taken) (s .args .m)) n
 
 -- The temperature's test is that of the number that the struct holds.
 warm : (c : tie.After-temperature-in-range)
