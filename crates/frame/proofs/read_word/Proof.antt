@@ -38,7 +38,7 @@ returns-3 c =
     read-word-promised frame _ (read-sync frame (omega arith) (omega arith) (w .first-wrong-sync .result) (w .first-wrong-sync .ensures) (omega arith))
 
 word-of-data-requires : tie.Need-word-of-data-requires
-word-of-data-requires c κs = search needs
+word-of-data-requires c κs = omega arith
 
 returns-4 : tie.Need-returns-4
 returns-4 c =
