@@ -13,46 +13,35 @@ use Rattle.basics.proofs.Filling.{Filling, fill-starts, fill-turn, fill-ends}
 use Rattle.radix.specs.Numeral.{numberFrom, numberOf}
 use Rattle.convolution.specs.Code.{clockedBits, clocked, firstMask, secondMask, parity, codedBits}
 use Rattle.convolution.specs.Decoding.{nextBit, decodedFrom, decodedWord}
-use Rattle.convolution.proofs.CodeLaws.{length-clockedBits, length-codedBits, codedWith, both-registers}
+use Rattle.convolution.proofs.CodeLaws.{length-codedBits}
+use Rattle.convolution.proofs.Coding.{Coding, coding-starts, coding-first, coding-second, coding-turn}
 use Rattle.convolution.proofs.DecodingLaws.{nextBit-below}
 
 -- ---- encode
 
--- Before a turn: the coded bits of the steps so far are written, and the others are those of the register and the bits from here on.
+-- Before a turn: the coded bits of the steps so far are written.
 pub record Encoding (word : ℕ) (coded : List ℕ) (register step : ℕ) : Type 0 where
   pub filled : Filling (codedBits word) coded (2 * step)
-  pub rest : drop (2 * step) (codedBits word) ≡ codedWith register (drop step (clockedBits word))
+  pub coding : Coding word register step
 
 pub encoding-starts : (word : ℕ) → Encoding word (replicate 162 0) 0 0
-unfolding codedBits
 encoding-starts word =
+    record { filled = fill-starts (codedBits word) (replicate 162 0) (rw (length-codedBits word)); coding = coding-starts word }
+
+pub encoding-turn : (word : ℕ) (coded : List ℕ) (register step : ℕ) → step < 81 → Encoding word coded register step
+    → (next : ℕ) → next ≡ clocked register (getD (clockedBits word) step 0)
+    → (first second : ℕ) → first ≡ parity firstMask next → second ≡ parity secondMask next
+    → Encoding word (set (set coded (2 * step) first) (2 * step + 1) second) next (step + 1)
+encoding-turn word coded register step h now next e first second e₁ e₂ =
+    let room = length-codedBits word in
+    let is-first = e₁ ∙ coding-first word register step h (now .coding) next e in
+    let is-second = e₂ ∙ coding-second word register step h (now .coding) next e in
+    let one = fill-turn (codedBits word) coded (2 * step) first (omega arith) is-first (now .filled) in
+    let two = fill-turn (codedBits word) _ (2 * step + 1) second (omega arith) is-second one in
     record {
-      filled = fill-starts (codedBits word) (replicate 162 0) (rw (length-codedBits word));
-      rest = both-registers 0 (clockedBits word);
+      filled = subst (λ (i : ℕ). Filling (codedBits word) (set (set coded (2 * step) first) (2 * step + 1) second) i) (omega arith) two;
+      coding = coding-turn word register step h (now .coding) next e;
     }
-
-module _ (word : ℕ) (coded : List ℕ) (register step : ℕ) (before : step < 81) (now : Encoding word coded register step) where
-  module _ (next : ℕ) (e : next ≡ clocked register (getD (clockedBits word) step 0)) where
-    -- The two coded bits of this step, and those after it.
-    split : drop (2 * step) (codedBits word) ≡ parity firstMask next ∷ parity secondMask next ∷ codedWith next (drop (suc step) (clockedBits word))
-    unfolding codedWith
-    split = now .rest ∙ rw (drop-cons (clockedBits word) step 0 (omega (arith, length-clockedBits word)), e)
-
-    pub encoding-turn : (first second : ℕ) → first ≡ parity firstMask next → second ≡ parity secondMask next
-        → Encoding word (set (set coded (2 * step) first) (2 * step + 1) second) next (step + 1)
-    encoding-turn first second e₁ e₂ =
-        let room = length-codedBits word in
-        let is-first : first ≡ getD (codedBits word) (2 * step) 0 =
-        e₁ ∙ sym (ap (λ (l : List ℕ). getD l 0 0) split) ∙ head-at (2 * step) (codedBits word) in
-        let is-second : second ≡ getD (codedBits word) (2 * step + 1) 0 =
-        e₂ ∙ sym (ap (λ (l : List ℕ). getD l 1 0) split) ∙ getD-drop (2 * step) (codedBits word) 1 0 in
-        let one = fill-turn (codedBits word) coded (2 * step) first (omega arith) is-first (now .filled) in
-        let two = fill-turn (codedBits word) _ (2 * step + 1) second (omega arith) is-second one in
-        let twice : 2 * (step + 1) ≡ 2 * step + 2 = omega arith in
-        record {
-          filled = subst (λ (i : ℕ). Filling (codedBits word) (set (set coded (2 * step) first) (2 * step + 1) second) i) (omega arith) two;
-          rest = rw (twice, ← drop-drop 2 (2 * step) (codedBits word), split, add-one);
-        }
 
 pub encoding-ends : (word : ℕ) (coded : List ℕ) (register step : ℕ) → 81 ≤ step → Encoding word coded register step → coded ≡ codedBits word
 encoding-ends word coded register step h now =

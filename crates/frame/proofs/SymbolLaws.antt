@@ -19,7 +19,7 @@ use Rattle.convolution.proofs.CodeLaws.{length-codedBits, codedBits-below}
 use Rattle.convolution.proofs.DecodingLaws.{decode-encode}
 use Rattle.interleaver.specs.Places.{placeOf, indexAt}
 use Rattle.interleaver.proofs.PlaceLaws.{placeOf-below, indexAt-below, indexAt-placeOf, placeOf-indexAt}
-use Rattle.frame.specs.Symbols.{syncVector, syncAt, symbolAt, frameOf, RightSymbols, receivedBits, synced, unsyncedAt, wrongSyncIn}
+use Rattle.frame.specs.Symbols.{syncVector, syncAt, interleaved, withSync, frameOf, RightSymbols, DataBits, receivedBits, synced, unsyncedAt, wrongSyncIn}
 use Rattle.frame.specs.Answer.{isSymbol, firstLarge, firstWrongSync}
 use Rattle.frame.specs.RoundTrip.{RightForm}
 
@@ -39,38 +39,56 @@ pub sync-below : (place : ℕ) → syncAt place < 2
 unfolding syncAt syncVector
 sync-below place = ltb-true _ _ (every-at (λ s. ltb s 2) syncVector 0 refl refl place)
 
-module _ (word place : ℕ) where
-  symbol-to-3 : symbolAt (codedBits word) place ≤ 3
-  unfolding symbolAt
-  symbol-to-3 = omega (arith, sync-below place, codedBits-below word (indexAt place))
+-- ---- The data bits of a word's frame
 
-  symbol-sync : symbolAt (codedBits word) place % 2 ≡ syncAt place
-  unfolding symbolAt
-  symbol-sync = omega (arith, sync-below place)
+pub length-interleaved : (coded : List ℕ) → length (interleaved coded) ≡ 162
+unfolding interleaved
+length-interleaved coded = length-tabulate 162 (λ place. getD coded (indexAt place) 0)
 
-  symbol-data : symbolAt (codedBits word) place / 2 ≡ getD (codedBits word) (indexAt place) 0
-  unfolding symbolAt
-  symbol-data = omega (arith, sync-below place)
+pub getD-interleaved : (coded : List ℕ) (place : ℕ) → place < 162 → getD (interleaved coded) place 0 ≡ getD coded (indexAt place) 0
+unfolding interleaved
+getD-interleaved coded place h = getD-tabulate 162 (λ place. getD coded (indexAt place) 0) place h
+
+pub interleaved-bits : (word : ℕ) → DataBits (interleaved (codedBits word))
+interleaved-bits word =
+    record {
+      long = length-interleaved (codedBits word);
+      are-bits = λ place h. rw (getD-interleaved (codedBits word) place h) (codedBits-below word (indexAt place));
+    }
 
 -- ---- The frame of a word
 
+pub length-withSync : (bits : List ℕ) → length (withSync bits) ≡ 162
+unfolding withSync
+length-withSync bits = length-tabulate 162 (λ place. syncAt place + 2 * getD bits place 0)
+
+pub getD-withSync : (bits : List ℕ) (place : ℕ) → place < 162 → getD (withSync bits) place 0 ≡ syncAt place + 2 * getD bits place 0
+unfolding withSync
+getD-withSync bits place h = getD-tabulate 162 (λ place. syncAt place + 2 * getD bits place 0) place h
+
 pub length-frameOf : (word : ℕ) → length (frameOf word) ≡ 162
 unfolding frameOf
-length-frameOf word = length-tabulate 162 (symbolAt (codedBits word))
+length-frameOf word = length-withSync (interleaved (codedBits word))
 
-pub getD-frameOf : (word place : ℕ) → place < 162 → getD (frameOf word) place 0 ≡ symbolAt (codedBits word) place
-unfolding frameOf
-getD-frameOf word place h = getD-tabulate 162 (symbolAt (codedBits word)) place h
+module _ (word place : ℕ) (h : place < 162) where
+  pub getD-frameOf : getD (frameOf word) place 0 ≡ syncAt place + 2 * getD (codedBits word) (indexAt place) 0
+  unfolding frameOf
+  getD-frameOf = rw (getD-withSync (interleaved (codedBits word)) place h, getD-interleaved (codedBits word) place h)
+
+  symbol-to-3 : getD (frameOf word) place 0 ≤ 3
+  symbol-to-3 = omega (arith, getD-frameOf, sync-below place, codedBits-below word (indexAt place))
+
+  symbol-sync : getD (frameOf word) place 0 % 2 ≡ syncAt place
+  symbol-sync = omega (arith, getD-frameOf, sync-below place)
+
+  symbol-data : getD (frameOf word) place 0 / 2 ≡ getD (codedBits word) (indexAt place) 0
+  symbol-data = omega (arith, getD-frameOf, sync-below place)
 
 pub frame-right-form : (word : ℕ) → RightForm (frameOf word)
 frame-right-form word =
     record {
-      right-symbols =
-          record {
-            right-length = length-frameOf word;
-            symbols-to-3 = λ place h. rw (getD-frameOf word place h) (symbol-to-3 word place);
-          };
-      right-sync = λ place h. rw (getD-frameOf word place h) (symbol-sync word place);
+      right-symbols = record { right-length = length-frameOf word; symbols-to-3 = symbol-to-3 word };
+      right-sync = symbol-sync word;
     }
 
 -- ---- Back to the coded bits
@@ -90,8 +108,7 @@ received-frameOf word =
     sym
     (by-rule 162 (λ index. getD (frameOf word) (placeOf index) 0 / 2) (codedBits word) (length-codedBits word)
     (λ index h.
-    let there = getD-frameOf word (placeOf index) (placeOf-below index h) in
-    rw (there, symbol-data word (placeOf index), indexAt-placeOf index h)))
+    rw (symbol-data word (placeOf index) (placeOf-below index h), indexAt-placeOf index h)))
 
 -- So the word is read back, and different words have different frames.
 pub decoded-frameOf : (word : ℕ) → word < 2 ^ 50 → decodedWord (receivedBits (frameOf word)) ≡ word
@@ -103,7 +120,6 @@ frameOf-injective v w h k e =
 
 -- A frame of the right form is a word's where its data bits are the word's coded bits.
 pub frame-by-data : (word : ℕ) (frame : List ℕ) → RightForm frame → codedBits word ≡ receivedBits frame → frameOf word ≡ frame
-unfolding symbolAt
 frame-by-data word frame form e =
     ext-getD 0 (frameOf word) frame (length-frameOf word ∙ sym (form .right-symbols .right-length))
     (λ place h.

@@ -23,18 +23,27 @@ syncVector =
 unfoldable pub syncAt : ℕ → ℕ
 syncAt place = getD syncVector place 0
 
--- The data bit of a place is the coded bit that goes there; "Symbol n is sync n plus twice data n."
-unfoldable pub symbolAt : List ℕ → ℕ → ℕ
-symbolAt coded place = syncAt place + 2 * getD coded (indexAt place) 0
+-- The data bit of each place: the coded bit that goes there.
+unfoldable pub interleaved : List ℕ → List ℕ
+interleaved coded = tabulate 162 (λ place. getD coded (indexAt place) 0)
+
+-- "Symbol n is sync n plus twice data n."
+unfoldable pub withSync : List ℕ → List ℕ
+withSync bits = tabulate 162 (λ place. syncAt place + 2 * getD bits place 0)
 
 -- The frame of a word.
 unfoldable pub frameOf : ℕ → List ℕ
-frameOf word = tabulate 162 (symbolAt (codedBits word))
+frameOf word = withSync (interleaved (codedBits word))
 
 -- A frame has 162 symbols of 0 to 3.
 pub record RightSymbols (frame : List ℕ) : Type 0 where
   pub right-length : length frame ≡ 162
   pub symbols-to-3 : (place : ℕ) → place < 162 → getD frame place 0 ≤ 3
+
+-- 162 bits, as a frame has data bits: by place, or in coded order.
+pub record DataBits (bits : List ℕ) : Type 0 where
+  pub long : length bits ≡ 162
+  pub are-bits : (i : ℕ) → i < 162 → getD bits i 0 < 2
 
 -- The data bit at a place of a frame: "symbol divided by 2, rounded down".
 abbrev pub dataAt : List ℕ → ℕ → ℕ

@@ -1,3 +1,3 @@
--- `PlaceLaws`: the places and their inverse. `Turns`: one turn of the loops of `places` and `indexes`.
+-- `PlaceLaws`: the places and their inverse. `Placing`: a loop that puts coded bits at their places.
 pub mod PlaceLaws
-mod Turns
+pub mod Placing

@@ -1,10 +1,8 @@
--- Laws of the interleaver: three exchanges reverse an address; there are 162 places, each below 162; the place of a coded bit and the coded bit of a place are inverse to
--- each other.
-use mathlib.Core.Path.{_≡_, refl}
-use Prim.Native.Nat.{ℕ, _*_, _/_, _%_, _<_}
+-- Laws of the interleaver: there are 162 places, each below 162; the place of a coded bit and the index of a place's coded bit take each other back.
+use mathlib.Core.Path.{_≡_, refl, ap, _∙_}
+use Prim.Native.Nat.{ℕ, _<_}
 use mathlib.Core.Bool.{Bool, true, _&&_}
-use mathlib.Core.List.{[], _∷_}
-use lib.Bits.{bitAnd, bitOr}
+use mathlib.Core.List.{List, [], _∷_}
 use lib.Dec.{eqb, ltb}
 use lib.ListN.{length, getD, take}
 use borrow.Author.Tests.{eqb-true, ltb-true}
@@ -12,21 +10,7 @@ use Rattle.basics.specs.Lists.{firstFailing, indexIn}
 use Rattle.basics.proofs.Choice.{both-true}
 use Rattle.basics.proofs.ListLaws.{getD-tabulate}
 use Rattle.basics.proofs.Tables.{every-below, below-at}
-use Rattle.interleaver.specs.Places.{reversedIn, reversed, placesFrom, allPlaces, placeOf, indexAt, allIndexes}
-
--- ---- Reversed addresses
-
--- The halves of an address exchanged, then its pairs, then its bits.
-abbrev pub exchanged : ℕ → ℕ
-exchanged address =
-    let halves = bitOr (address * 16 % 256) (address / 16) in
-    let pairs = bitOr (bitAnd halves 51 * 4 % 256) (bitAnd (halves / 4) 51) in
-    bitOr (bitAnd pairs 85 * 2 % 256) (bitAnd (pairs / 2) 85)
-
--- Every byte, by one test.
-pub exchanged-reversed : (address : ℕ) → address < 256 → exchanged address ≡ reversed address
-unfolding reversed reversedIn
-exchanged-reversed address h = eqb-true _ _ (below-at (λ a. eqb (exchanged a) (reversed a)) 256 refl address h)
+use Rattle.interleaver.specs.Places.{reversedIn, reversed, placesFrom, allPlaces, placeOf, indexAt, allIndexes, Inverse}
 
 -- ---- The places
 
@@ -39,40 +23,52 @@ first-places : take 4 allPlaces ≡ 0 ∷ 128 ∷ 64 ∷ 32 ∷ []
 unfolding allPlaces placesFrom reversed reversedIn
 first-places = refl
 
-pub getD-places : (index : ℕ) → getD allPlaces index 0 ≡ placeOf index
+-- What is read of a copy of the table is the coded bit's place.
+pub place-read : {table : List ℕ} (index : ℕ) → table ≡ allPlaces → getD table index 0 ≡ placeOf index
 unfolding placeOf
-getD-places index = refl
+place-read index same = ap (λ (t : List ℕ). getD t index 0) same
 
--- One test of all indexes, both ways: f gives one of 162, and g takes it back.
+-- One test of all 162, both ways: f gives one of them, and g takes it back.
 undone : (ℕ → ℕ) → (ℕ → ℕ) → ℕ → Bool
 undone f g i = ltb (f i) 162 && eqb (g (f i)) i
 
-undone-at : (f g : ℕ → ℕ) → every-below (undone f g) 162 ≡ true → (i : ℕ) → i < 162 → (f i < 162) × (g (f i) ≡ i)
+each-undone : every-below (λ i. undone placeOf indexAt i && undone indexAt placeOf i) 162 ≡ true
+unfolding undone placeOf indexAt allPlaces placesFrom reversed reversedIn indexIn firstFailing
+each-undone = refl
+
+of-undone : (f g : ℕ → ℕ) (i : ℕ) → undone f g i ≡ true → (f i < 162) × (g (f i) ≡ i)
 unfolding undone
-undone-at f g tested i h =
-    let tests = both-true (ltb (f i) 162) _ (below-at (undone f g) 162 tested i h) in
+of-undone f g i tested =
+    let tests = both-true (ltb (f i) 162) _ tested in
     (ltb-true _ _ (tests .0), eqb-true _ _ (tests .1))
 
-places-undone : every-below (undone placeOf indexAt) 162 ≡ true
-unfolding undone placeOf indexAt allPlaces placesFrom reversed reversedIn indexIn firstFailing
-places-undone = refl
+module _ (i : ℕ) (h : i < 162) where
+  tests : (undone placeOf indexAt i ≡ true) × (undone indexAt placeOf i ≡ true)
+  tests = both-true (undone placeOf indexAt i) _ (below-at (λ k. undone placeOf indexAt k && undone indexAt placeOf k) 162 each-undone i h)
 
-indexes-undone : every-below (undone indexAt placeOf) 162 ≡ true
-unfolding undone placeOf indexAt allPlaces placesFrom reversed reversedIn indexIn firstFailing
-indexes-undone = refl
+  pub placeOf-below : placeOf i < 162
+  placeOf-below = of-undone placeOf indexAt i (tests .0) .0
 
-pub placeOf-below : (index : ℕ) → index < 162 → placeOf index < 162
-placeOf-below index h = undone-at placeOf indexAt places-undone index h .0
+  pub indexAt-placeOf : indexAt (placeOf i) ≡ i
+  indexAt-placeOf = of-undone placeOf indexAt i (tests .0) .1
 
-pub indexAt-placeOf : (index : ℕ) → index < 162 → indexAt (placeOf index) ≡ index
-indexAt-placeOf index h = undone-at placeOf indexAt places-undone index h .1
+  pub indexAt-below : indexAt i < 162
+  indexAt-below = of-undone indexAt placeOf i (tests .1) .0
 
-pub indexAt-below : (place : ℕ) → place < 162 → indexAt place < 162
-indexAt-below place h = undone-at indexAt placeOf indexes-undone place h .0
+  pub placeOf-indexAt : placeOf (indexAt i) ≡ i
+  placeOf-indexAt = of-undone indexAt placeOf i (tests .1) .1
 
-pub placeOf-indexAt : (place : ℕ) → place < 162 → placeOf (indexAt place) ≡ place
-placeOf-indexAt place h = undone-at indexAt placeOf indexes-undone place h .1
-
-pub getD-indexes : (place : ℕ) → place < 162 → getD allIndexes place 0 ≡ indexAt place
+getD-indexes : (place : ℕ) → place < 162 → getD allIndexes place 0 ≡ indexAt place
 unfolding allIndexes
 getD-indexes place h = getD-tabulate 162 indexAt place h
+
+pub places-indexes : Inverse allPlaces allIndexes
+places-indexes =
+    record {
+      indexes-back =
+          λ index h.
+          rw (place-read index refl) (placeOf-below index h, getD-indexes (placeOf index) (placeOf-below index h) ∙ indexAt-placeOf index h);
+      places-back =
+          λ place h.
+          rw (getD-indexes place h) (indexAt-below place h, place-read (indexAt place) refl ∙ placeOf-indexAt place h);
+    }

@@ -1,5 +1,6 @@
 -- The places of the coded bits in a frame (01, 'Frame': Interleaving).
-use Prim.Native.Nat.{ℕ, zero, suc, _+_, _*_, _/_, _%_, _^_}
+use mathlib.Core.Path.{_≡_}
+use Prim.Native.Nat.{ℕ, zero, suc, _+_, _*_, _/_, _%_, _^_, _<_}
 use mathlib.Core.Bool.{cond}
 use mathlib.Core.List.{List, [], _∷_}
 use lib.Dec.{ltb}
@@ -30,11 +31,19 @@ allPlaces = placesFrom 256 0
 unfoldable pub placeOf : ℕ → ℕ
 placeOf index = getD allPlaces index 0
 
--- Its inverse: the index of the coded bit that goes to a place. That each undoes the other is `indexAt-placeOf` and `placeOf-indexAt` of
--- proofs/PlaceLaws.antt.
+-- Its inverse: the index of the coded bit that goes to a place.
 unfoldable pub indexAt : ℕ → ℕ
 indexAt place = indexIn place allPlaces
 
 -- The index of each place's coded bit.
 unfoldable pub allIndexes : List ℕ
 allIndexes = tabulate 162 indexAt
+
+-- What the first table has for each of the 162 is again one of them, and the second has it back.
+abbrev pub TakenBack : List ℕ → List ℕ → Type 0
+TakenBack there back = (i : ℕ) → i < 162 → (getD there i 0 < 162) × (getD back (getD there i 0) 0 ≡ i)
+
+-- "a constant table of 162 places, with the inverse beside it, shown equal to the published rule at every entry and inverse to each other" (02, L5)
+pub record Inverse (places indexes : List ℕ) : Type 0 where
+  pub indexes-back : TakenBack places indexes
+  pub places-back : TakenBack indexes places

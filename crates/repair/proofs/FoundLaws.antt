@@ -8,20 +8,20 @@ use Rattle.basics.proofs.Choice.{below-or-not}
 use Rattle.refusal.specs.Refusals.{refusal, overBudget, noneWithinLimit, sharedFewest}
 use Rattle.interleaver.specs.Places.{placeOf}
 use Rattle.interleaver.proofs.PlaceLaws.{placeOf-below}
-use Rattle.frame.specs.Symbols.{RightSymbols, receivedBits, wrongSyncIn}
+use Rattle.frame.specs.Symbols.{RightSymbols, DataBits, receivedBits, wrongSyncIn}
 use Rattle.frame.proofs.SymbolLaws.{length-receivedBits, getD-receivedBits}
 use Rattle.distance.specs.Prefixes.{wordDisagreements, liveCount}
 use Rattle.distance.specs.Nearest.{AtMostAll, OnlyNearest}
 use Rattle.repair.specs.Answer.{searched}
 use Rattle.repair.specs.Demand.{IsNearest, Shared}
-use Rattle.repair.specs.Search.{BestBelow, Received, SearchFound, nearestIn, answerOf}
+use Rattle.repair.specs.Search.{BestBelow, SearchFound, nearestIn, answerOf}
 use Rattle.repair.specs.declared.best.Best.{Best}
 use Rattle.repair.specs.declared.search.Found.{Found}
 use Rattle.repair.specs.declared.RepairAnswer.{RepairAnswer}
 use Rattle.repair.proofs.AnswerLaws.{searched-over, of-word, of-none, of-shared}
 
 -- The data bits of symbols of 0 to 3 are bits.
-pub received-bits : (frame : List ℕ) → RightSymbols frame → Received (receivedBits frame)
+pub received-bits : (frame : List ℕ) → RightSymbols frame → DataBits (receivedBits frame)
 received-bits frame right =
     record {
       long = length-receivedBits frame;

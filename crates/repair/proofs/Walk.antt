@@ -15,7 +15,8 @@ use Rattle.distance.proofs.PrefixLaws.{prefixes-root, prefixes-positive, prefix
 use Rattle.distance.proofs.Spans.{span, span-tail, span-within, span-root, share-fewer, within-span, first-of-span, child-span, nextWord, next-none, next-more, next-all, next-prefix, next-child, next-below, parent-span, parent-begins, word-at}
 use Rattle.distance.proofs.Passed.{passedLive, live-enter, live-whole, live-leave, words-not-live, live-pass, live-starts, live-ends, live-most}
 use Rattle.distance.proofs.StepLaws.{branches-later, child-below, parent-below, last-below, child-parent, prefix-empty, zeroCost-most, disagreements-branch}
-use Rattle.repair.specs.Search.{noneFound, bestWith, BestBelow, Received, SearchFound}
+use Rattle.frame.specs.Symbols.{DataBits}
+use Rattle.repair.specs.Search.{noneFound, bestWith, BestBelow, SearchFound}
 use Rattle.repair.specs.declared.best.Best.{Best}
 use Rattle.repair.proofs.BestLaws.{best-starts, best-passes, best-takes}
 
@@ -38,7 +39,7 @@ pub record Walking (received : List ℕ) (limit budget : ℕ) (costs : List ℕ)
 module _ {received : List ℕ} {limit budget : ℕ} where
   -- ---- Start
 
-  pub walk-starts : (costs : List ℕ) (cost : ℕ) → Received received → length costs ≡ 81 → cost ≡ zeroCost received 0 0
+  pub walk-starts : (costs : List ℕ) (cost : ℕ) → DataBits received → length costs ≡ 81 → cost ≡ zeroCost received 0 0
       → Walking received limit budget (set costs 0 cost) (noneFound limit) 0 0 0 0 0
   walk-starts costs cost received-bits room e =
       let none : nextWord 0 0 0 ≡ 0 = omega (arith, zero-mul (span 0), zero-mul (span 1)) in

@@ -5,7 +5,6 @@ use Prim.Native.Nat.{ℕ, _+_, _^_, _≤_, _<_}
 use mathlib.Core.Bool.{cond}
 use mathlib.Core.List.{List}
 use lib.Dec.{leb, ltb}
-use lib.ListN.{length, getD}
 use Rattle.refusal.specs.Refusals.{refusal, overBudget, noneWithinLimit, sharedFewest}
 use Rattle.distance.specs.Prefixes.{wordDisagreements, liveCount}
 use Rattle.repair.specs.Answer.{nearestFrom}
@@ -38,11 +37,6 @@ pub record BestBelow (received : List ℕ) (limit bound : ℕ) (best : Best) : T
       → (word : ℕ) × ((word < bound) × ((word ≡ best .word → ⊥) × (wordDisagreements received word ≡ best .next)))
 
 -- ---- What a search found
-
--- What is received: 162 bits.
-pub record Received (received : List ℕ) : Type 0 where
-  pub long : length received ≡ 162
-  pub are-bits : (index : ℕ) → index < 162 → getD received index 0 < 2
 
 -- "The search stops at once, from however deep, when the count passes the budget": it counts one prefix past the budget at most. The count
 -- is above the budget only where the live count is; else it is the live count, and the record is that of all words.

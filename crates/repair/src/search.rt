@@ -1,7 +1,8 @@
 // The search: live prefixes are visited depth first and counted, until all are or the budget is
 // passed.
 ghost use Prim.Native.Nat.{_≤_};
-ghost use Rattle.repair.specs.Search.{Received, SearchFound};
+ghost use Rattle.frame.specs.Symbols.{DataBits};
+ghost use Rattle.repair.specs.Search.{SearchFound};
 use super::best;
 use super::best::Best;
 use super::cost;
@@ -16,7 +17,7 @@ pub(crate) struct Found {
 // Visits each live prefix before the longer ones that begin with it, depth first, and stops at once
 // when they are more than the budget.
 pub(crate) fn search(received: &[u8; 162], limit: u32, budget: u32) -> Found
-    requires { ⌜ Received (now received) ⌝ }
+    requires { ⌜ DataBits (now received) ⌝ }
     requires { ⌜ limit ≤ 12 ⌝ }
     requires { ⌜ budget ≤ 65_536 ⌝ }
     ensures { λ r. ⌜ SearchFound (now (received .entry)) limit budget r ⌝ }
