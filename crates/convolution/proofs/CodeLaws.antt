@@ -54,22 +54,22 @@ clocked-first word step h =
     List·getD-append (bitsOf 50 word) (replicate 31 0) 0 step (omega (arith, length-bitsOf 50 word))
     ∙ getD-bitsOf 50 word step (49 - step) (omega arith)
 
-pub clocked-later : (word step : ℕ) → 50 ≤ step → step < 81 → getD (clockedBits word) step 0 ≡ 0
+-- After them there are zeros only.
+pub clocked-later : (word step : ℕ) → 50 ≤ step → getD (clockedBits word) step 0 ≡ 0
 unfolding clockedBits
-clocked-later word step h k =
+clocked-later word step h =
     let past : step ≡ length (bitsOf 50 word) + (step - 50) = omega (arith, length-bitsOf 50 word) in
     ap (λ (i : ℕ). getD (bitsOf 50 word ++ replicate 31 0) i 0) past
     ∙ getD-append-add (bitsOf 50 word) (replicate 31 0) (step - 50) 0
-    ∙ getD-replicate 31 (step - 50) 0 0 (omega arith)
+    ∙ below-or-not (step - 50) 31
+    (λ k. getD-replicate 31 (step - 50) 0 0 k)
+    (λ k. List·getD-eq-default (replicate 31 0) 0 {n = step - 50} k)
 
 pub clocked-below : (word step : ℕ) → getD (clockedBits word) step 0 < 2
 clocked-below word step =
     below-or-not step 50
     (λ first. rw (clocked-first word step first) (mod-lt (word / 2 ^ (49 - step)) (omega arith)))
-    (λ h.
-    below-or-not step 81
-    (λ last. rw (clocked-later word step h last) (omega arith))
-    (λ past. rw (List·getD-eq-default (clockedBits word) 0 {n = step} (rw (length-clockedBits word) past)) (omega arith)))
+    (λ later. rw (clocked-later word step later) (omega arith))
 
 -- ---- The registers
 

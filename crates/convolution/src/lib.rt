@@ -39,9 +39,8 @@ pub fn clock(register: u32, bit: u8) -> u32
     (register << 1) | bit as u32
 }
 
-// The bit of a word that is clocked at a step, 0 to 80: its 50 bits, highest first, then zeros.
+// The bit of a word that is clocked at a step: its 50 bits, highest first, then zeros.
 pub fn clocked_bit(word: u64, step: usize) -> u8
-    requires { ⌜ step < 81 ⌝ }
     ensures { λ r. ⌜ r ≡ getD (clockedBits word) step 0 ⌝ }
 {
     if step < 50 {

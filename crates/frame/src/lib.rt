@@ -1,6 +1,7 @@
 // A frame of 162 symbols: written from a word or a message, and strictly read to either.
 pub mod symbols;
 mod sync;
+mod writing;
 
 ghost use mathlib.Core.Path.{_≡_};
 ghost use Rattle.message.specs.Answer.{wordNumbers, messageNumbers};
@@ -39,7 +40,7 @@ pub fn write_word(word: u64, frame: &mut [u8]) -> WriteAnswer
             place: 0,
         });
     }
-    symbols::write_symbols(word, frame);
+    writing::write_symbols(word, frame);
     WriteAnswer::Done
 }
 
@@ -58,7 +59,7 @@ pub fn write_message(callsign: &[u8], locator: &[u8], power: u32, frame: &mut [u
     }
     match message::pack(callsign, locator, power) {
         WordAnswer::Word(word) => {
-            symbols::write_symbols(word, frame);
+            writing::write_symbols(word, frame);
             WriteAnswer::Done
         }
         WordAnswer::Refused(refusal) => WriteAnswer::Refused(refusal),

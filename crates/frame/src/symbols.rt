@@ -2,52 +2,12 @@
 ghost use mathlib.Core.Path.{_≡_};
 ghost use Prim.Native.Nat.{_≤_};
 ghost use lib.ListN.{length};
-ghost use Rattle.convolution.specs.Code.{codedBits};
-ghost use Rattle.frame.specs.Symbols.{interleaved, withSync, frameOf, DataBits, receivedBits, wrongSyncIn};
+ghost use Rattle.frame.specs.Symbols.{receivedBits, wrongSyncIn};
 ghost use Rattle.frame.specs.Answer.{firstLarge, firstWrongSync, wordOfData};
 use super::sync::sync_vector;
 use message::WordAnswer;
 use refusal::NO_WORD;
 use refusal::Refusal;
-
-// Writes the data bits of a word's frame: each coded bit goes to its place as it comes.
-fn write_data(word: u64, frame: &mut [u8])
-    requires { ⌜ length (now frame) ≡ 162 ⌝ }
-    ensures { λ _. ⌜ now (frame .exit) ≡ interleaved (codedBits word) ⌝ }
-{
-    let places = interleaver::places();
-    let mut register: u32 = 0;
-    let mut step = 0;
-    while step < 81 {
-        register = convolution::clock(register, convolution::clocked_bit(word, step));
-        frame[places[2 * step] as usize] = convolution::first_coded(register);
-        frame[places[2 * step + 1] as usize] = convolution::second_coded(register);
-        step += 1;
-    }
-}
-
-// Makes symbols of the data bits of a frame.
-fn add_sync(frame: &mut [u8])
-    requires { ⌜ DataBits (now frame) ⌝ }
-    ensures { λ _. ⌜ now (frame .exit) ≡ withSync (now (frame .entry)) ⌝ }
-{
-    let sync = sync_vector();
-    let mut place = 0;
-    while place < 162 {
-        frame[place] = sync[place] + 2 * frame[place];
-        place += 1;
-    }
-}
-
-// Writes the frame of a word's 50 lowest bits. The sync bits have a pass of their own, which the
-// compiler makes of many places at a time.
-pub(crate) fn write_symbols(word: u64, frame: &mut [u8])
-    requires { ⌜ length (now frame) ≡ 162 ⌝ }
-    ensures { λ _. ⌜ now (frame .exit) ≡ frameOf word ⌝ }
-{
-    write_data(word, frame);
-    add_sync(frame);
-}
 
 // The first place whose symbol is above 3; the length where there is none.
 pub fn first_large(frame: &[u8]) -> usize
@@ -97,17 +57,17 @@ pub fn wrong_sync(frame: &[u8]) -> u32
     wrong
 }
 
-// The data bits of a frame in coded order.
+// The data bits of a frame in coded order: each goes to its index as it comes.
 pub fn received_bits(frame: &[u8]) -> [u8; 162]
     requires { ⌜ length (now frame) ≡ 162 ⌝ }
     ensures { λ r. ⌜ r ≡ receivedBits (now (frame .entry)) ⌝ }
 {
-    let places = interleaver::places();
+    let indexes = interleaver::indexes::table();
     let mut received = [0u8; 162];
-    let mut i = 0;
-    while i < 162 {
-        received[i] = frame[places[i] as usize] / 2;
-        i += 1;
+    let mut place = 0;
+    while place < 162 {
+        received[indexes[place] as usize] = frame[place] / 2;
+        place += 1;
     }
     received
 }

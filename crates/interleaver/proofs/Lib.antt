@@ -1,3 +1,3 @@
--- `PlaceLaws`: the places and their inverse. `Placing`: a loop that puts coded bits at their places.
+-- `PlaceLaws`: the places and their inverse. `Placing`: a loop that puts values at their places.
 pub mod PlaceLaws
 pub mod Placing

@@ -1,8 +1,8 @@
 -- Laws of the interleaver: there are 162 places, each below 162; the place of a coded bit and the index of a place's coded bit take each other back.
-use mathlib.Core.Path.{_≡_, refl, ap, _∙_}
+use mathlib.Core.Path.{_≡_, refl, _∙_}
 use Prim.Native.Nat.{ℕ, _<_}
 use mathlib.Core.Bool.{Bool, true, _&&_}
-use mathlib.Core.List.{List, [], _∷_}
+use mathlib.Core.List.{[], _∷_}
 use lib.Dec.{eqb, ltb}
 use lib.ListN.{length, getD, take}
 use borrow.Author.Tests.{eqb-true, ltb-true}
@@ -23,10 +23,9 @@ first-places : take 4 allPlaces ≡ 0 ∷ 128 ∷ 64 ∷ 32 ∷ []
 unfolding allPlaces placesFrom reversed reversedIn
 first-places = refl
 
--- What is read of a copy of the table is the coded bit's place.
-pub place-read : {table : List ℕ} (index : ℕ) → table ≡ allPlaces → getD table index 0 ≡ placeOf index
+pub getD-places : (index : ℕ) → getD allPlaces index 0 ≡ placeOf index
 unfolding placeOf
-place-read index same = ap (λ (t : List ℕ). getD t index 0) same
+getD-places index = refl
 
 -- One test of all 162, both ways: f gives one of them, and g takes it back.
 undone : (ℕ → ℕ) → (ℕ → ℕ) → ℕ → Bool
@@ -58,7 +57,7 @@ module _ (i : ℕ) (h : i < 162) where
   pub placeOf-indexAt : placeOf (indexAt i) ≡ i
   placeOf-indexAt = of-undone indexAt placeOf i (tests .1) .1
 
-getD-indexes : (place : ℕ) → place < 162 → getD allIndexes place 0 ≡ indexAt place
+pub getD-indexes : (place : ℕ) → place < 162 → getD allIndexes place 0 ≡ indexAt place
 unfolding allIndexes
 getD-indexes place h = getD-tabulate 162 indexAt place h
 
@@ -67,8 +66,8 @@ places-indexes =
     record {
       indexes-back =
           λ index h.
-          rw (place-read index refl) (placeOf-below index h, getD-indexes (placeOf index) (placeOf-below index h) ∙ indexAt-placeOf index h);
+          rw (getD-places index) (placeOf-below index h, getD-indexes (placeOf index) (placeOf-below index h) ∙ indexAt-placeOf index h);
       places-back =
           λ place h.
-          rw (getD-indexes place h) (indexAt-below place h, place-read (indexAt place) refl ∙ placeOf-indexAt place h);
+          rw (getD-indexes place h) (indexAt-below place h, getD-places (indexAt place) ∙ placeOf-indexAt place h);
     }

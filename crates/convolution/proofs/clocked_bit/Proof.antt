@@ -24,7 +24,7 @@ returns c =
 returns-2 : tie.Need-returns-2
 returns-2 c =
     let a = c .before .args in
-    sym (clocked-later (a .word) (a .step) (omega arith) (omega arith))
+    sym (clocked-later (a .word) (a .step) (omega arith))
 
 pub clocked-bit-spec : {M : Type 1} → statement M
 clocked-bit-spec = tie.close (tie.spec sub-result shr-result cast-result returns returns-2)

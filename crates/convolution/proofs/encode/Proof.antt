@@ -4,6 +4,7 @@
 use mathlib.Core.Path.{ap, _∙_}
 use Prim.Native.Nat.{_-_}
 use native.Mathlib.Omega.{arith}
+use borrow.Author.Needs.{needs}
 use Rattle.convolution.specs.Code.{clocked}
 use Rattle.convolution.proofs.CodeLaws.{clocked-below}
 use Rattle.convolution.proofs.Turns.{Encoding, encoding-starts, encoding-turn, encoding-ends}
@@ -20,7 +21,7 @@ loop-holds : tie.Need-loop-holds Inv-loop μ-loop
 loop-holds c = encoding-starts (c .args .word)
 
 clocked-bit-requires : tie.Need-clocked-bit-requires Inv-loop μ-loop
-clocked-bit-requires c κs = omega arith
+clocked-bit-requires c κs = search needs
 
 clock-requires : tie.Need-clock-requires Inv-loop μ-loop
 clock-requires c κs = rw (c .clocked-bit .ensures) (clocked-below _ _)

@@ -1,15 +1,15 @@
--- `interleaver::indexes` meets its contract: one test of the whole table, which has the index of each place's coded bit by the published rule.
+-- `interleaver::indexes::table` meets its contract: one test of the whole table, which has the index of each place's coded bit by the published rule.
 -- Assumes nothing.
 use mathlib.Core.Path.{refl}
 use Rattle.basics.specs.Lists.{tabulate, firstFailing, indexIn}
 use Rattle.interleaver.specs.Places.{reversedIn, reversed, placesFrom, allPlaces, indexAt, allIndexes}
 use Rattle.interleaver.proofs.PlaceLaws.{places-indexes}
-use Rattle.interleaver.proofs.indexes.Statement.{statement}
-use Rattle.interleaver.proofs.indexes.Tie as tie
+use Rattle.interleaver.proofs.indexes.table.Statement.{statement}
+use Rattle.interleaver.proofs.indexes.table.Tie as tie
 
 returns : tie.Need-returns
 unfolding allIndexes tabulate indexAt indexIn firstFailing allPlaces placesFrom reversed reversedIn
 returns c = (refl, places-indexes)
 
-pub indexes-spec : {M : Type 1} → statement M
-indexes-spec = tie.close (tie.spec returns)
+pub table-spec : {M : Type 1} → statement M
+table-spec = tie.close (tie.spec returns)

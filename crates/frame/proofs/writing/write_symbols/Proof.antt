@@ -1,11 +1,11 @@
--- `frame::symbols::write_symbols` meets its contract: the data bits are written, and made symbols.
+-- `frame::writing::write_symbols` meets its contract: the data bits are written, and made symbols.
 -- Assumes nothing.
 use mathlib.Core.Path.{_≡_, ap, _∙_}
 use borrow.Author.Needs.{needs}
 use Rattle.frame.specs.Symbols.{withSync, frameOf}
 use Rattle.frame.proofs.SymbolLaws.{interleaved-bits}
-use Rattle.frame.proofs.symbols.write_symbols.Statement.{statement}
-use Rattle.frame.proofs.symbols.write_symbols.Tie as tie
+use Rattle.frame.proofs.writing.write_symbols.Statement.{statement}
+use Rattle.frame.proofs.writing.write_symbols.Tie as tie
 
 write-data-requires : tie.Need-write-data-requires
 write-data-requires c κs = search needs

@@ -1,4 +1,4 @@
--- `frame::symbols::add_sync` meets its contract: each turn makes the symbol of a place of its data bit.
+-- `frame::writing::add_sync` meets its contract: each turn makes the symbol of a place of its data bit.
 -- The measure is the number of places left.
 -- Assumes nothing.
 use mathlib.Core.Path.{_≡_, sym, _∙_}
@@ -9,8 +9,8 @@ use borrow.Author.Needs.{needs}
 use Rattle.basics.proofs.Filling.{Replacing, replace-starts, replace-turn, fill-ends}
 use Rattle.frame.specs.Symbols.{syncAt, withSync}
 use Rattle.frame.proofs.SymbolLaws.{sync-read, sync-below, length-withSync, getD-withSync}
-use Rattle.frame.proofs.symbols.add_sync.Statement.{statement}
-use Rattle.frame.proofs.symbols.add_sync.Tie as tie
+use Rattle.frame.proofs.writing.add_sync.Statement.{statement}
+use Rattle.frame.proofs.writing.add_sync.Tie as tie
 
 abbrev Inv-loop : tie.InvT-loop
 Inv-loop frame₀ sync place₀ frame place = Replacing (withSync frame₀) frame₀ frame place

@@ -1,0 +1,14 @@
+-- `interleaver::places::table` meets its contract: one test of the whole table, which is the places by the published rule.
+-- Assumes nothing.
+use mathlib.Core.Path.{refl}
+use Rattle.interleaver.specs.Places.{reversedIn, reversed, placesFrom, allPlaces}
+use Rattle.interleaver.proofs.PlaceLaws.{places-indexes}
+use Rattle.interleaver.proofs.places.table.Statement.{statement}
+use Rattle.interleaver.proofs.places.table.Tie as tie
+
+returns : tie.Need-returns
+unfolding allPlaces placesFrom reversed reversedIn
+returns c = (refl, places-indexes)
+
+pub table-spec : {M : Type 1} → statement M
+table-spec = tie.close (tie.spec returns)
