@@ -8,8 +8,8 @@ use native.Mathlib.Omega.{arith}
 use mathlib.Core.Bool.{Bool, true, false, not, true≢false, false≢true}
 use mathlib.Core.List.{List, [], _∷_, _++_}
 use lib.Dec.{eqb}
-use lib.ListN.{length, getD, drop, length-drop, drop-of-length-le}
-use lib.Seq.{drop-cons, drop-drop, getD-drop, ext-getD}
+use lib.ListN.{length, getD, drop, drop-of-length-le}
+use lib.Seq.{drop-cons, getD-drop, ext-getD}
 use borrow.Author.Tests.{eqb-true, eq-eqb, ne-eqb}
 use Rattle.basics.specs.Lists.{tabulate, firstFailing, isOther, indexIn, sameList}
 use Rattle.basics.proofs.Choice.{both-true, by-test, equal-or-not}
@@ -18,17 +18,6 @@ use Rattle.basics.proofs.Choice.{both-true, by-test, equal-or-not}
 
 pub head-at : (i : ℕ) (l : List ℕ) → getD (drop i l) 0 0 ≡ getD l i 0
 head-at i l = rw (add-zero i) at (getD-drop i l 0 0)
-
--- What is known of a list's rest says what stands at the index, and what comes after.
-module _ (i : ℕ) (l : List ℕ) {x : ℕ} {xs : List ℕ} (e : drop i l ≡ x ∷ xs) where
-  pub rest-within : i < length l
-  rest-within = omega (arith, ap length e, length-drop i l)
-
-  pub rest-head : getD l i 0 ≡ x
-  rest-head = sym (head-at i l) ∙ ap (λ (r : List ℕ). getD r 0 0) e
-
-  pub rest-tail : drop (i + 1) l ≡ xs
-  rest-tail = sym (drop-drop 1 i l) ∙ ap (drop 1) e
 
 -- ---- A list by a rule
 

@@ -1,12 +1,12 @@
 -- One turn of the loops of `encode` and `decode`, over lists.
-use mathlib.Core.Path.{_≡_, refl, sym, ap, _∙_, subst}
+use mathlib.Core.Path.{_≡_, refl, _∙_, subst}
 use Prim.Native.Nat.{ℕ, suc, _+_, _-_, _*_, _^_, _≤_, _<_}
 use native.Mathlib.Nat.{pow-suc}
 use native.Mathlib.Numerals.{add-one}
 use native.Mathlib.Omega.{arith}
-use mathlib.Core.List.{List, _∷_}
+use mathlib.Core.List.{List}
 use lib.ListN.{getD, drop, set, replicate}
-use lib.Seq.{drop-cons, drop-drop, getD-drop}
+use lib.Seq.{drop-drop}
 use lib.Pow.{pow-mono}
 use Rattle.basics.proofs.ListLaws.{head-at}
 use Rattle.basics.proofs.Filling.{Filling, fill-starts, fill-turn, fill-ends}

@@ -14,7 +14,7 @@ use Rattle.interleaver.specs.Places.{reversedIn, reversed, placesFrom, a
 
 -- ---- The places
 
-pub length-places : length allPlaces ≡ 162
+length-places : length allPlaces ≡ 162
 unfolding allPlaces placesFrom reversed reversedIn
 length-places = refl
 
@@ -27,12 +27,16 @@ pub getD-places : (index : ℕ) → getD allPlaces index 0 ≡ placeOf index
 unfolding placeOf
 getD-places index = refl
 
--- One test of all 162, both ways: f gives one of them, and g takes it back.
+-- f gives one of the 162, and g takes it back.
 undone : (ℕ → ℕ) → (ℕ → ℕ) → ℕ → Bool
 undone f g i = ltb (f i) 162 && eqb (g (f i)) i
 
-each-undone : every-below (λ i. undone placeOf indexAt i && undone indexAt placeOf i) 162 ≡ true
-unfolding undone placeOf indexAt allPlaces placesFrom reversed reversedIn indexIn firstFailing
+-- One test of all, both ways.
+both-undone : ℕ → Bool
+both-undone i = undone placeOf indexAt i && undone indexAt placeOf i
+
+each-undone : every-below both-undone 162 ≡ true
+unfolding both-undone undone placeOf indexAt allPlaces placesFrom reversed reversedIn indexIn firstFailing
 each-undone = refl
 
 of-undone : (f g : ℕ → ℕ) (i : ℕ) → undone f g i ≡ true → (f i < 162) × (g (f i) ≡ i)
@@ -43,7 +47,8 @@ of-undone f g i tested =
 
 module _ (i : ℕ) (h : i < 162) where
   tests : (undone placeOf indexAt i ≡ true) × (undone indexAt placeOf i ≡ true)
-  tests = both-true (undone placeOf indexAt i) _ (below-at (λ k. undone placeOf indexAt k && undone indexAt placeOf k) 162 each-undone i h)
+  unfolding both-undone
+  tests = both-true (undone placeOf indexAt i) _ (below-at both-undone 162 each-undone i h)
 
   pub placeOf-below : placeOf i < 162
   placeOf-below = of-undone placeOf indexAt i (tests .0) .0

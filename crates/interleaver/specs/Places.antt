@@ -43,7 +43,7 @@ allIndexes = tabulate 162 indexAt
 abbrev pub TakenBack : List ℕ → List ℕ → Type 0
 TakenBack there back = (i : ℕ) → i < 162 → (getD there i 0 < 162) × (getD back (getD there i 0) 0 ≡ i)
 
--- "a constant table of 162 places, with the inverse beside it, shown equal to the published rule at every entry and inverse to each other" (02, L5)
+-- "a constant table of 162 places, with the inverse beside it, .. inverse to each other" (02, L5)
 pub record Inverse (places indexes : List ℕ) : Type 0 where
   pub indexes-back : TakenBack places indexes
   pub places-back : TakenBack indexes places

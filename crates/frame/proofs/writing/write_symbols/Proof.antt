@@ -1,6 +1,6 @@
 -- `frame::writing::write_symbols` meets its contract: the data bits are written, and made symbols.
 -- Assumes nothing.
-use mathlib.Core.Path.{_≡_, ap, _∙_}
+use mathlib.Core.Path.{ap, _∙_}
 use borrow.Author.Needs.{needs}
 use Rattle.frame.specs.Symbols.{withSync, frameOf}
 use Rattle.frame.proofs.SymbolLaws.{interleaved-bits}
