@@ -1,4 +1,5 @@
--- A loop that fills a list from index 0 on: before each turn its first i elements are those that it shall hold; and one that replaces them in place.
+-- A loop that fills a list from index 0 on: before each turn its first i elements are those that it shall hold. And one that replaces
+-- the elements in place.
 use mathlib.Core.Path.{_≡_, refl, sym, _∙_}
 use Prim.Native.Nat.{ℕ, _+_, _≤_, _<_}
 use native.Mathlib.Numerals.{add-one}

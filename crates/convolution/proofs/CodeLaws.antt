@@ -54,7 +54,7 @@ clocked-first word step h =
     List·getD-append (bitsOf 50 word) (replicate 31 0) 0 step (omega (arith, length-bitsOf 50 word))
     ∙ getD-bitsOf 50 word step (49 - step) (omega arith)
 
--- After them there are zeros only.
+-- After a word's 50 bits only zeros are clocked.
 pub clocked-later : (word step : ℕ) → 50 ≤ step → getD (clockedBits word) step 0 ≡ 0
 unfolding clockedBits
 clocked-later word step h =

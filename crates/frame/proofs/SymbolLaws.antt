@@ -41,18 +41,18 @@ sync-below place = ltb-true _ _ (every-at (λ s. ltb s 2) syncVector 0 refl refl
 
 -- ---- The data bits of a word's frame
 
-pub length-interleaved : (coded : List ℕ) → length (interleaved coded) ≡ 162
+length-interleaved : (coded : List ℕ) → length (interleaved coded) ≡ 162
 unfolding interleaved
 length-interleaved coded = length-tabulate 162 (λ place. getD coded (indexAt place) 0)
 
-pub getD-interleaved : (coded : List ℕ) (place : ℕ) → place < 162 → getD (interleaved coded) place 0 ≡ getD coded (indexAt place) 0
+getD-interleaved : (coded : List ℕ) (place : ℕ) → place < 162 → getD (interleaved coded) place 0 ≡ getD coded (indexAt place) 0
 unfolding interleaved
 getD-interleaved coded place h = getD-tabulate 162 (λ place. getD coded (indexAt place) 0) place h
 
 pub interleaved-bits : (word : ℕ) → DataBits (interleaved (codedBits word))
 interleaved-bits word =
     record {
-      long = length-interleaved (codedBits word);
+      right-length = length-interleaved (codedBits word);
       are-bits = λ place h. rw (getD-interleaved (codedBits word) place h) (codedBits-below word (indexAt place));
     }
 
@@ -71,7 +71,7 @@ unfolding frameOf
 length-frameOf word = length-withSync (interleaved (codedBits word))
 
 module _ (word place : ℕ) (h : place < 162) where
-  pub getD-frameOf : getD (frameOf word) place 0 ≡ syncAt place + 2 * getD (codedBits word) (indexAt place) 0
+  getD-frameOf : getD (frameOf word) place 0 ≡ syncAt place + 2 * getD (codedBits word) (indexAt place) 0
   unfolding frameOf
   getD-frameOf = rw (getD-withSync (interleaved (codedBits word)) place h, getD-interleaved (codedBits word) place h)
 

@@ -1,4 +1,4 @@
-// A frame written: the data bits of a word at their places, then the sync bits.
+// Writing a frame: the data bits of a word at their places, then the sync bits.
 ghost use mathlib.Core.Path.{_≡_};
 ghost use lib.ListN.{length};
 ghost use Rattle.convolution.specs.Code.{codedBits};
@@ -34,8 +34,8 @@ fn add_sync(frame: &mut [u8])
     }
 }
 
-// Writes the frame of a word's 50 lowest bits. The sync bits have a pass of their own, which the
-// compiler makes of many places at a time.
+// Writes the frame of a word's 50 lowest bits. The sync bits are added in a pass of their own, which
+// is compiled to steps of many places.
 pub(crate) fn write_symbols(word: u64, frame: &mut [u8])
     requires { ⌜ length (now frame) ≡ 162 ⌝ }
     ensures { λ _. ⌜ now (frame .exit) ≡ frameOf word ⌝ }

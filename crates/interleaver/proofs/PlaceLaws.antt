@@ -1,4 +1,4 @@
--- Laws of the interleaver: there are 162 places, each below 162; the place of a coded bit and the index of a place's coded bit take each other back.
+-- Laws of the interleaver: there are 162 places, each below 162, and the places and the indexes are inverse to each other.
 use mathlib.Core.Path.{_≡_, refl, _∙_}
 use Prim.Native.Nat.{ℕ, _<_}
 use mathlib.Core.Bool.{Bool, true, _&&_}

@@ -1,2 +1,2 @@
--- `Places`: the place of each coded bit, and the coded bit of each place.
+-- `Places`: the place of each coded bit, the index of each place's coded bit, and when two tables are inverse to each other.
 pub mod Places

@@ -1,4 +1,4 @@
--- The places of the coded bits in a frame (01, 'Frame': Interleaving).
+-- The places of the coded bits in a frame (01, 'Frame': Interleaving), and when two tables are inverse to each other (02, L5).
 use mathlib.Core.Path.{_≡_}
 use Prim.Native.Nat.{ℕ, zero, suc, _+_, _*_, _/_, _%_, _^_, _<_}
 use mathlib.Core.Bool.{cond}
@@ -39,11 +39,13 @@ indexAt place = indexIn place allPlaces
 unfoldable pub allIndexes : List ℕ
 allIndexes = tabulate 162 indexAt
 
--- What the first table has for each of the 162 is again one of them, and the second has it back.
+-- Each of the 162 entries of the first table is below 162, and the second table leads back from it: back[there[i]] is i.
 abbrev pub TakenBack : List ℕ → List ℕ → Type 0
 TakenBack there back = (i : ℕ) → i < 162 → (getD there i 0 < 162) × (getD back (getD there i 0) 0 ≡ i)
 
 -- "a constant table of 162 places, with the inverse beside it, .. inverse to each other" (02, L5)
 pub record Inverse (places indexes : List ℕ) : Type 0 where
+  -- From a coded bit's place back to its index.
   pub indexes-back : TakenBack places indexes
+  -- From the index of a place's coded bit back to the place.
   pub places-back : TakenBack indexes places

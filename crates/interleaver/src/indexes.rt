@@ -1,4 +1,4 @@
-// The table of the indexes: that of each place's coded bit.
+// The index of each place's coded bit, as a table.
 ghost use mathlib.Core.Path.{_≡_};
 ghost use Rattle.interleaver.specs.Places.{allPlaces, allIndexes, Inverse};
 
@@ -167,7 +167,7 @@ const INDEXES: [u8; 162] = [
     85,
 ];
 
-// The index of each place's coded bit.
+// The table whole.
 pub fn table() -> [u8; 162]
     ensures answer { λ r. ⌜ r ≡ allIndexes ⌝ }
     ensures inverse { λ r. ⌜ Inverse allPlaces r ⌝ }

@@ -1,4 +1,4 @@
-// The table of the places: that of each coded bit in a frame.
+// The place of each coded bit in a frame, as a table.
 ghost use mathlib.Core.Path.{_≡_};
 ghost use Rattle.interleaver.specs.Places.{allPlaces, allIndexes, Inverse};
 
@@ -167,7 +167,7 @@ const PLACES: [u8; 162] = [
     127,
 ];
 
-// The place of each coded bit.
+// The table whole.
 pub fn table() -> [u8; 162]
     ensures answer { λ r. ⌜ r ≡ allPlaces ⌝ }
     ensures inverse { λ r. ⌜ Inverse r allIndexes ⌝ }

@@ -24,7 +24,7 @@ use Rattle.repair.proofs.AnswerLaws.{searched-over, of-word, of-none, o
 pub received-bits : (frame : List ℕ) → RightSymbols frame → DataBits (receivedBits frame)
 received-bits frame right =
     record {
-      long = length-receivedBits frame;
+      right-length = length-receivedBits frame;
       are-bits =
           λ index h.
           omega (arith, getD-receivedBits frame index h, right .symbols-to-3 (placeOf index) (placeOf-below index h));

@@ -45,8 +45,8 @@ module _ {received : List ℕ} {limit budget : ℕ} where
       let none : nextWord 0 0 0 ≡ 0 = omega (arith, zero-mul (span 0), zero-mul (span 1)) in
       let zero-first : 0 * span 0 ≡ 0 = zero-mul (span 0) in
       record {
-        long = received-bits .long;
-        are-bits = bits-each received (λ i h. received-bits .are-bits i (omega (arith, received-bits .long)));
+        long = received-bits .right-length;
+        are-bits = bits-each received (λ i h. received-bits .are-bits i (omega (arith, received-bits .right-length)));
         depth-most = omega arith;
         number-below = prefixes-positive 0;
         branch-most = omega arith;

@@ -38,7 +38,7 @@ sync-vector-requires c κs = search needs
 loop-holds : tie.Need-loop-holds Inv-loop μ-loop
 loop-holds c =
     let old = c .before .before .args .frame .now in
-    replace-starts (withSync old) old (c .before .before .pre .long ∙ sym (length-withSync old))
+    replace-starts (withSync old) old (c .before .before .pre .right-length ∙ sym (length-withSync old))
 
 array-read-frame : tie.Need-array-read-frame Inv-loop μ-loop
 array-read-frame c = omega arith
@@ -71,7 +71,7 @@ loop-again c =
 same-length : tie.Need-same-length Inv-loop μ-loop
 same-length c =
     let old = c .before .before .before .before .args .frame .now in
-    omega (arith, c .before .loop .inv .filled .same, length-withSync old, c .before .before .before .before .pre .long)
+    omega (arith, c .before .loop .inv .filled .same, length-withSync old, c .before .before .before .before .pre .right-length)
 
 returns : tie.Need-returns Inv-loop μ-loop
 returns c =

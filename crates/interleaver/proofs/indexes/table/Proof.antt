@@ -1,4 +1,5 @@
--- `interleaver::indexes::table` meets its contract: one test of the whole table, which has the index of each place's coded bit by the published rule.
+-- `interleaver::indexes::table` meets its contract: one test shows that the table is the indexes by the published rule, entry by entry; that
+-- they are the inverse of the places is `places-indexes`.
 -- Assumes nothing.
 use mathlib.Core.Path.{refl}
 use Rattle.basics.specs.Lists.{tabulate, firstFailing, indexIn}

@@ -1,4 +1,5 @@
--- `interleaver::places::table` meets its contract: one test of the whole table, which is the places by the published rule.
+-- `interleaver::places::table` meets its contract: one test shows that the table is the places by the published rule, entry by entry; that
+-- the indexes are their inverse is `places-indexes`.
 -- Assumes nothing.
 use mathlib.Core.Path.{refl}
 use Rattle.interleaver.specs.Places.{reversedIn, reversed, placesFrom, allPlaces}
