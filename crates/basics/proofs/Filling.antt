@@ -1,12 +1,11 @@
--- A loop that fills a list from index 0 on: before each turn its first i elements are those that it shall hold. And one that replaces
--- the elements in place.
+-- A loop that fills a list from index 0 on: before each turn its first i elements are those that it shall hold.
 use mathlib.Core.Path.{_≡_, refl, sym, _∙_}
 use Prim.Native.Nat.{ℕ, _+_, _≤_, _<_}
 use native.Mathlib.Numerals.{add-one}
 use native.Mathlib.Omega.{arith}
 use mathlib.Core.List.{List}
 use lib.ListN.{length, getD, take, set, length-set}
-use lib.Seq.{take-suc, take-suc-set, take-all, getD-set-other}
+use lib.Seq.{take-suc, take-suc-set, take-all}
 
 pub record Filling (target now : List ℕ) (i : ℕ) : Type 0 where
   pub within : i ≤ length target
@@ -29,21 +28,3 @@ fill-turn target now i v h e f =
 pub fill-ends : (target now : List ℕ) (i : ℕ) → length target ≤ i → Filling target now i → now ≡ target
 fill-ends target now i h f =
     sym (take-all i now (omega (arith, f .same))) ∙ f .done ∙ take-all i target h
-
--- ---- In place
-
--- A loop that replaces the elements one after the other: those from here on are still the old ones.
-pub record Replacing (target old now : List ℕ) (i : ℕ) : Type 0 where
-  pub filled : Filling target now i
-  pub rest : (k : ℕ) → i ≤ k → getD now k 0 ≡ getD old k 0
-
-pub replace-starts : (target old : List ℕ) → length old ≡ length target → Replacing target old old 0
-replace-starts target old e = record { filled = fill-starts target old e; rest = λ k h. refl }
-
-pub replace-turn : (target old now : List ℕ) (i v : ℕ) → i < length target → v ≡ getD target i 0 → Replacing target old now i
-    → Replacing target old (set now i v) (i + 1)
-replace-turn target old now i v h e r =
-    record {
-      filled = fill-turn target now i v h e (r .filled);
-      rest = λ k above. getD-set-other now i k v 0 (λ same. omega arith) ∙ r .rest k (omega arith);
-    }

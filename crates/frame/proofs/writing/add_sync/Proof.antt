@@ -6,8 +6,9 @@ use Prim.Native.Nat.{_-_, _<_}
 use native.Mathlib.Omega.{arith}
 use lib.ListN.{length, getD}
 use borrow.Author.Needs.{needs}
-use Rattle.basics.proofs.Filling.{Replacing, replace-starts, replace-turn, fill-ends}
+use Rattle.basics.proofs.Filling.{fill-ends}
 use Rattle.frame.specs.Symbols.{syncAt, withSync}
+use Rattle.frame.proofs.Replacing.{Replacing, replace-starts, replace-turn}
 use Rattle.frame.proofs.SymbolLaws.{sync-read, sync-below, length-withSync, getD-withSync}
 use Rattle.frame.proofs.writing.add_sync.Statement.{statement}
 use Rattle.frame.proofs.writing.add_sync.Tie as tie
