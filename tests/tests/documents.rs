@@ -135,13 +135,18 @@ fn cited(document: &str) -> Vec<(String, String)> {
     found
 }
 
-/// Whether a function, of the crate that is named or of any, has the clause.
+/// Whether a function, of the crate or the module that is named or of any, has the clause.
 fn has_clause(path: &[&str], clause: &str) -> bool {
-    let folder =
-        if path.len() > 1 { format!("crates/{}/src", path[0]) } else { "crates".to_string() };
+    let begins = match path[..path.len() - 1] {
+        [] => "crates/".to_string(),
+        [layer] => format!("crates/{layer}/src/"),
+        [layer, ref modules @ ..] => format!("crates/{layer}/src/{}.rt", modules.join("/")),
+    };
     let opens = format!("fn {}(", path[path.len() - 1]);
-    let sources =
-        files(&folder).into_iter().filter(|file| file.ends_with(".rt")).map(|file| read(&file));
+    let sources = files("crates")
+        .into_iter()
+        .filter(|file| file.starts_with(&begins) && file.ends_with(".rt"))
+        .map(|file| read(&file));
     let mut heads = sources
         .filter_map(|text| Some(text.split_once(&opens)?.1.split("\n{").next()?.to_string()));
     heads.any(|head| head.contains(&format!("ensures {clause} ")))
@@ -192,6 +197,8 @@ fn every_clause_in_the_documents_is_one_of_its_function() {
     }
     assert!(seen > 40, "{seen} clauses only");
     assert!(!has_clause(&["frame", "read_word"], "reads_back"));
+    assert!(has_clause(&["interleaver", "table"], "inverse"));
+    assert!(!has_clause(&["interleaver", "sync", "table"], "inverse"));
 }
 
 #[test]

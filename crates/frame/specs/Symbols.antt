@@ -40,8 +40,7 @@ pub record RightSymbols (frame : List ℕ) : Type 0 where
   pub right-length : length frame ≡ 162
   pub symbols-to-3 : (place : ℕ) → place < 162 → getD frame place 0 ≤ 3
 
--- 162 bits: a frame's data bits, by place or in coded order. Private functions alone require it, so that no promise has to be believed through
--- it.
+-- 162 bits: a frame's data bits, by place or in coded order. Only private functions require it: no promise has to be believed through it.
 pub record DataBits (bits : List ℕ) : Type 0 where
   pub right-length : length bits ≡ 162
   pub are-bits : (i : ℕ) → i < 162 → getD bits i 0 < 2

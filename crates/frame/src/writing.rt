@@ -34,8 +34,8 @@ fn add_sync(frame: &mut [u8])
     }
 }
 
-// Writes the frame of a word's 50 lowest bits. The sync bits are added in a pass of their own, which
-// is compiled to steps of many places.
+// Writes the frame of a word's 50 lowest bits. The sync bits are added in a pass of their own, so
+// that the compiler adds them to many places at a time.
 pub(crate) fn write_symbols(word: u64, frame: &mut [u8])
     requires { ⌜ length (now frame) ≡ 162 ⌝ }
     ensures { λ _. ⌜ now (frame .exit) ≡ frameOf word ⌝ }

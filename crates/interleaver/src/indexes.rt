@@ -167,7 +167,7 @@ const INDEXES: [u8; 162] = [
     85,
 ];
 
-// The table whole.
+// The whole table.
 pub fn table() -> [u8; 162]
     ensures answer { λ r. ⌜ r ≡ allIndexes ⌝ }
     ensures inverse { λ r. ⌜ Inverse allPlaces r ⌝ }

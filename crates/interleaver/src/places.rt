@@ -167,7 +167,7 @@ const PLACES: [u8; 162] = [
     127,
 ];
 
-// The table whole.
+// The whole table.
 pub fn table() -> [u8; 162]
     ensures answer { λ r. ⌜ r ≡ allPlaces ⌝ }
     ensures inverse { λ r. ⌜ Inverse r allIndexes ⌝ }
