@@ -3,4 +3,5 @@
 pub mod CodeLaws
 pub mod Coding
 pub mod DecodingLaws
+mod Folding
 mod Turns

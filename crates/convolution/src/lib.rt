@@ -13,7 +13,11 @@ const SECOND_MASK: u32 = 0xE461_3C47;
 fn masked_parity(mask: u32, register: u32) -> u8
     ensures { λ r. ⌜ r ≡ parity mask register ⌝ }
 {
-    (u32::count_ones(register & mask) % 2) as u8
+    let masked = register & mask;
+    let folded = masked ^ (masked << 2);
+    let parities = (folded ^ (folded << 1)) & 0x8888_8888;
+    let sum = parities as u64 * 0x1111_1111;
+    ((sum >> 31) % 2) as u8
 }
 
 // The first coded bit of a register.
