@@ -1,45 +1,13 @@
 -- The parity of a register without counting its ones: two folds by exclusive or leave one bit of each field of four, and a product adds
 -- these bits up.
 use mathlib.Core.Path.{_≡_, refl, sym, ap, _∙_}
-use Prim.Native.Nat.{ℕ, zero, suc, _+_, _*_, _/_, _%_, _^_, _≤_, _<_}
+use Prim.Native.Nat.{ℕ, zero, suc, _+_, _-_, _*_, _/_, _%_, _^_, _≤_, _<_}
 use native.Mathlib.Nat.{mod-lt, mod-eq-of-lt, add-comm, mul-assoc, mul-add-div-right}
 use native.Mathlib.Omega.{arith}
-use lib.Bits.{bitAnd, bitXor, differ, xor-step, xor-zero-l, xor-shr, xor-mod, and-block, and-mask}
-use lib.Count.{ones, ones-step, ones-cat}
-use lib.Pow.{pow-pos, pow-add, split, high, low, shr-shr, mod-pow-add}
-
--- ---- Exclusive or
-
-ones-bit : (n : ℕ) → n < 2 → ones n ≡ n
-unfolding ones
-ones-bit zero h = refl
-ones-bit (suc zero) h = refl
-ones-bit (suc (suc n)) h = absurd (omega arith)
-
-differ-sum : (a b : ℕ) → a < 2 → b < 2 → differ a b ≡ (a + b) % 2
-differ-sum zero b h k = omega arith
-differ-sum (suc zero) zero h k = refl
-differ-sum (suc zero) (suc zero) h k = refl
-differ-sum (suc zero) (suc (suc b)) h k = absurd (omega arith)
-differ-sum (suc (suc a)) b h k = absurd (omega arith)
-
-sums-odd : (d a b n p q : ℕ) → d ≡ (a + b) % 2 → n % 2 ≡ (p + q) % 2 → (d + n) % 2 ≡ ((a + p) + (b + q)) % 2
-sums-odd d a b n p q e f = omega arith
-
--- The ones of an exclusive or are, modulo 2, those of both numbers.
-ones-xor : (k a b : ℕ) → a < 2 ^ k → ones (bitXor a b) % 2 ≡ (ones a + ones b) % 2
-ones-xor zero a b h =
-    let none : a ≡ 0 = omega arith in
-    rw (none, xor-zero-l b, ones-bit 0 (omega arith)) (omega arith)
-ones-xor (suc k) a b h =
-    let rest = bitXor (a / 2) (b / 2) in
-    let lowest = differ (a % 2) (b % 2) in
-    let sum = differ-sum (a % 2) (b % 2) (mod-lt a (omega arith)) (mod-lt b (omega arith)) in
-    let small : lowest < 2 = rw sum (mod-lt (a % 2 + b % 2) (omega arith)) in
-    let odd : (rest * 2 + lowest) % 2 ≡ lowest = omega arith in
-    let half : (rest * 2 + lowest) / 2 ≡ rest = omega arith in
-    rw (xor-step a b, ones-step (rest * 2 + lowest), odd, half, ones-step a, ones-step b)
-    (sums-odd lowest (a % 2) (b % 2) (ones rest) (ones (a / 2)) (ones (b / 2)) sum (ones-xor k (a / 2) (b / 2) (omega arith)))
+use lib.Bits.{bitAnd, bitXor, xor-shr, and-block, and-mask}
+use lib.Count.{ones, ones-cat}
+use lib.Pow.{pow-pos, pow-add, split, high, low, field, shr-shr, mod-pow-add}
+use Rattle.convolution.proofs.ParityLaws.{ones-sum}
 
 -- ---- Folds
 
@@ -52,16 +20,22 @@ parity-fold : (k y : ℕ) → ones (y % 2 ^ (k + k)) % 2 ≡ ones (fold k y % 2 
 parity-fold k y =
     let lower = y % 2 ^ k in
     let upper = y / 2 ^ k % 2 ^ k in
-    let below : lower < 2 ^ k = mod-lt y (pow-pos k) in
-    rw (mod-pow-add y k k, ones-cat k upper lower below, xor-mod y (y / 2 ^ k) k) (omega (arith, ones-xor k lower upper below))
+    let sum = rw (and-mask (fold k y) k, and-mask y k, and-mask (y / 2 ^ k) k) at (ones-sum (2 ^ k - 1) y (y / 2 ^ k)) in
+    rw (mod-pow-add y k k, ones-cat k upper lower (mod-lt y (pow-pos k))) (omega (arith, sum))
 
--- A fold of what stands from j on.
+-- A fold and a shift may be exchanged.
 fold-shr : (k j y : ℕ) → fold k y / 2 ^ j ≡ fold k (y / 2 ^ j)
 fold-shr k j y =
     let either : y / 2 ^ k / 2 ^ j ≡ y / 2 ^ j / 2 ^ k = rw (shr-shr y k j, shr-shr y j k, add-comm k j) in
     rw (xor-shr y (y / 2 ^ k) j, either)
 
 -- ---- Fields of four bits
+
+ones-bit : (n : ℕ) → n < 2 → ones n ≡ n
+unfolding ones
+ones-bit zero h = refl
+ones-bit (suc zero) h = refl
+ones-bit (suc (suc n)) h = absurd (omega arith)
 
 -- Two folds leave the parity of a field in its lowest bit,
 fold-lowest : (y : ℕ) → fold 1 (fold 2 y) % 2 ≡ ones (y % 2 ^ 4) % 2
@@ -75,38 +49,38 @@ fold-above : (y : ℕ) → fold 1 (fold 2 y) / 2 ^ 4 ≡ fold 1 (fold 2 (y / 2 ^
 fold-above y = rw (fold-shr 1 4 (fold 2 y), fold-shr 2 4 y)
 
 -- The number whose n lowest fields are 1.
-unfoldable lowestBits : ℕ → ℕ
-lowestBits zero = 0
-lowestBits (suc n) = lowestBits n * 2 ^ 4 + 1
+unfoldable fieldOnes : ℕ → ℕ
+fieldOnes zero = 0
+fieldOnes (suc n) = fieldOnes n * 2 ^ 4 + 1
 
 -- The sum of a number's n lowest fields.
 unfoldable total : ℕ → ℕ → ℕ
 total zero z = 0
 total (suc n) z = z % 2 ^ 4 + total n (z / 2 ^ 4)
 
--- Of a number's lowest bits in its fields: that of the lowest field, then the others.
-lowestBits-first : (n v : ℕ) → bitAnd v (lowestBits (suc n)) ≡ bitAnd (v / 2 ^ 4) (lowestBits n) * 2 ^ 4 + v % 2
-unfolding lowestBits
-lowestBits-first n v =
+-- The lowest bits of the fields: that of the first, then those of the fields above.
+fieldOnes-first : (n v : ℕ) → bitAnd v (fieldOnes (suc n)) ≡ bitAnd (v / 2 ^ 4) (fieldOnes n) * 2 ^ 4 + v % 2
+unfolding fieldOnes
+fieldOnes-first n v =
     let bit : bitAnd (v % 2 ^ 4) 1 ≡ v % 2 = and-mask (v % 2 ^ 4) 1 ∙ omega arith in
-    ap (λ (x : ℕ). bitAnd x (lowestBits (suc n))) (sym (split v 4))
-    ∙ and-block 4 (v / 2 ^ 4) (lowestBits n) (v % 2 ^ 4) 1 (mod-lt v (omega arith)) (omega arith)
+    ap (λ (x : ℕ). bitAnd x (fieldOnes (suc n))) (sym (split v 4))
+    ∙ and-block 4 (v / 2 ^ 4) (fieldOnes n) (v % 2 ^ 4) 1 (mod-lt v (omega arith)) (omega arith)
     ∙ rw bit
 
-total-first : (n v : ℕ) → total (suc n) (bitAnd v (lowestBits (suc n))) ≡ v % 2 + total n (bitAnd (v / 2 ^ 4) (lowestBits n))
+total-first : (n v : ℕ) → total (suc n) (bitAnd v (fieldOnes (suc n))) ≡ v % 2 + total n (bitAnd (v / 2 ^ 4) (fieldOnes n))
 unfolding total
 total-first n v =
-    let above = bitAnd (v / 2 ^ 4) (lowestBits n) in
+    let above = bitAnd (v / 2 ^ 4) (fieldOnes n) in
     let small : v % 2 < 2 ^ 4 = omega arith in
-    rw (lowestBits-first n v, low above 4 small, high above 4 small)
+    rw (fieldOnes-first n v, low above 4 small, high above 4 small)
 
-total-below : (n v : ℕ) → total n (bitAnd v (lowestBits n)) ≤ n
+total-below : (n v : ℕ) → total n (bitAnd v (fieldOnes n)) ≤ n
 unfolding total
 total-below zero v = omega arith
 total-below (suc n) v = omega (arith, total-first n v, total-below n (v / 2 ^ 4))
 
 -- So the bits that two folds leave sum up to the parity of all n fields.
-total-parity : (n y : ℕ) → total n (bitAnd (fold 1 (fold 2 y)) (lowestBits n)) % 2 ≡ ones (y % 2 ^ (4 * n)) % 2
+total-parity : (n y : ℕ) → total n (bitAnd (fold 1 (fold 2 y)) (fieldOnes n)) % 2 ≡ ones (y % 2 ^ (4 * n)) % 2
 unfolding total
 total-parity zero y =
     let none : y % 2 ^ (4 * 0) ≡ 0 = omega arith in
@@ -119,12 +93,12 @@ total-parity (suc n) y =
 
 -- ---- The product
 
-lowestBits-all : (n : ℕ) → 15 * lowestBits n + 1 ≡ 2 ^ (4 * n)
-unfolding lowestBits
-lowestBits-all zero = refl
-lowestBits-all (suc n) =
+fieldOnes-all : (n : ℕ) → 15 * fieldOnes n + 1 ≡ 2 ^ (4 * n)
+unfolding fieldOnes
+fieldOnes-all zero = refl
+fieldOnes-all (suc n) =
     let wide : 4 * suc n ≡ 4 * n + 4 = omega arith in
-    rw (wide, pow-add 2 (4 * n) 4) (omega (arith, lowestBits-all n))
+    rw (wide, pow-add 2 (4 * n) 4) (omega (arith, fieldOnes-all n))
 
 product-parts : (q r l : ℕ) → r < 2 ^ 4 → (q * 2 ^ 4 + r) * (l * 2 ^ 4 + 1) / 2 ^ 4 ≡ q * (15 * l + 1) + (q + r) * l
 product-parts q r l h = omega arith
@@ -132,12 +106,12 @@ product-parts q r l h = omega arith
 -- Without its lowest field, the product with n + 1 ones is the product with n of what is left when the number's lowest field is added to
 -- the next, but for what lies above n fields.
 product-first : (n z : ℕ)
-    → z * lowestBits (suc n) / 2 ^ 4 ≡ z / 2 ^ 4 * 2 ^ (4 * n) + (z / 2 ^ 4 + z % 2 ^ 4) * lowestBits n
-unfolding lowestBits
+    → z * fieldOnes (suc n) / 2 ^ 4 ≡ z / 2 ^ 4 * 2 ^ (4 * n) + (z / 2 ^ 4 + z % 2 ^ 4) * fieldOnes n
+unfolding fieldOnes
 product-first n z =
-    ap (λ (x : ℕ). x * lowestBits (suc n) / 2 ^ 4) (sym (split z 4))
-    ∙ product-parts (z / 2 ^ 4) (z % 2 ^ 4) (lowestBits n) (mod-lt z (omega arith))
-    ∙ rw (lowestBits-all n)
+    ap (λ (x : ℕ). x * fieldOnes (suc n) / 2 ^ 4) (sym (split z 4))
+    ∙ product-parts (z / 2 ^ 4) (z % 2 ^ 4) (fieldOnes n) (mod-lt z (omega arith))
+    ∙ rw (fieldOnes-all n)
 
 above-fields : (n q a : ℕ) → (q * 2 ^ (4 * suc n) + a) / 2 ^ (4 * n) % 2 ^ 4 ≡ a / 2 ^ (4 * n) % 2 ^ 4
 above-fields n q a =
@@ -153,36 +127,43 @@ total-carried n z h =
     rw (lowest, above) (omega arith)
 
 -- Over the number of fields: the product with n + 1 ones has the sum of n + 1 fields in field n.
-product-total : (n z : ℕ) → total (suc n) z < 2 ^ 4 → z * lowestBits (suc n) / 2 ^ (4 * n) % 2 ^ 4 ≡ total (suc n) z
-unfolding total lowestBits
+product-total : (n z : ℕ) → total (suc n) z < 2 ^ 4 → z * fieldOnes (suc n) / 2 ^ (4 * n) % 2 ^ 4 ≡ total (suc n) z
+unfolding total fieldOnes
 product-total zero z h = omega arith
 product-total (suc n) z h =
     let next = z / 2 ^ 4 + z % 2 ^ 4 in
-    let product = z * lowestBits (suc (suc n)) in
+    let product = z * fieldOnes (suc (suc n)) in
     let wide : 4 * suc n ≡ 4 + 4 * n = omega arith in
     let carried = total-carried n z h in
     ap (λ (e : ℕ). product / 2 ^ e % 2 ^ 4) wide
     ∙ ap (λ (x : ℕ). x % 2 ^ 4) (sym (shr-shr product 4 (4 * n)))
     ∙ ap (λ (x : ℕ). x / 2 ^ (4 * n) % 2 ^ 4) (product-first (suc n) z)
-    ∙ above-fields n (z / 2 ^ 4) (next * lowestBits (suc n))
+    ∙ above-fields n (z / 2 ^ 4) (next * fieldOnes (suc n))
     ∙ product-total n next (rw carried h)
     ∙ carried
 
 -- ---- A register
 
--- The ones three places higher: the sum's lowest bit, bit 28, is bit 31.
-product-raised : (z : ℕ) → z * 0x8888_8888 / 2 ^ 31 ≡ z * 0x1111_1111 / 2 ^ 28
-product-raised z = omega arith
+-- With the ones three places higher, the sum's lowest bit is the highest of 32.
+three-higher : (z : ℕ) → z * 0x8888_8888 / 2 ^ 31 ≡ z * 0x1111_1111 / 2 ^ 28
+three-higher z = omega arith
+
+product-highest : (z : ℕ) → bitAnd (z * 0x8888_8888) 0xFFFF_FFFF / 2 ^ 31 ≡ z * 0x1111_1111 / 2 ^ 28 % 2
+product-highest z =
+    ap (λ (x : ℕ). x / 2 ^ 31) (and-mask (z * 0x8888_8888) 32)
+    ∙ field (z * 0x8888_8888) 1 31
+    ∙ ap (λ (x : ℕ). x % 2) (three-higher z)
 
 odd-field : (n sum : ℕ) → n % 2 ^ 4 ≡ sum → n % 2 ≡ sum % 2
 odd-field n sum e = omega arith
 
-pub parity-product : (y : ℕ) → y < 2 ^ 32 → bitAnd (fold 1 (fold 2 y)) 0x1111_1111 * 0x8888_8888 / 2 ^ 31 % 2 ≡ ones y % 2
-unfolding lowestBits
+pub parity-product : (y : ℕ) → y < 2 ^ 32
+    → bitAnd (bitAnd (fold 1 (fold 2 y)) 0x1111_1111 * 0x8888_8888) 0xFFFF_FFFF / 2 ^ 31 ≡ ones y % 2
+unfolding fieldOnes
 parity-product y h =
-    let bits = bitAnd (fold 1 (fold 2 y)) (lowestBits 8) in
+    let bits = bitAnd (fold 1 (fold 2 y)) (fieldOnes 8) in
     let small : total 8 bits < 2 ^ 4 = omega (arith, total-below 8 (fold 1 (fold 2 y))) in
-    ap (λ (x : ℕ). x % 2) (product-raised bits)
-    ∙ odd-field (bits * lowestBits 8 / 2 ^ 28) (total 8 bits) (product-total 7 bits small)
+    product-highest bits
+    ∙ odd-field (bits * fieldOnes 8 / 2 ^ 28) (total 8 bits) (product-total 7 bits small)
     ∙ total-parity 8 y
     ∙ ap (λ (x : ℕ). ones x % 2) (mod-eq-of-lt h)

@@ -11,7 +11,7 @@ const SECOND_MASK: u32 = 0xE461_3C47;
 
 // The parity of a masked register, 0 or 1: 11 operations, counted behind each line, no loop, call or table. Two folds
 // leave the parity of each field of four bits in its lowest bit. The product adds these eight bits up, and the lowest
-// bit of their sum is its bit 31.
+// bit of their sum is bit 31: of 32 bits the highest, so that a product of 32 bits does where there is none of 64.
 fn masked_parity(mask: u32, register: u32) -> u8
     ensures { λ r. ⌜ r ≡ parity mask register ⌝ }
 {
@@ -19,7 +19,7 @@ fn masked_parity(mask: u32, register: u32) -> u8
     let folded = masked ^ (masked >> 2); // 2, 3
     let parities = (folded ^ (folded >> 1)) & 0x1111_1111; // 4, 5, 6
     let sums = parities as u64 * 0x8888_8888; // 7, 8
-    ((sums >> 31) % 2) as u8 // 9, 10, 11
+    ((sums & 0xFFFF_FFFF) >> 31) as u8 // 9, 10, 11
 }
 
 // The first coded bit of a register.

@@ -1,10 +1,11 @@
 -- `convolution::masked_parity` meets its contract: two folds, and the sum of the eight bits that they leave.
 -- Assumes nothing.
-use Prim.Native.Nat.{ℕ, _*_, _^_, _<_}
+use Prim.Native.Nat.{ℕ, _*_, _/_, _^_, _<_}
 use native.Mathlib.Nat.{le-of-lt, lt-of-le-of-lt, mul-le-mul}
+use native.Mathlib.Omega.{arith}
 use lib.Bits.{bitAnd, and-le-l, and-le-r}
 use lib.Pow.{shl-lt}
-use mir.Syntax.{w64}
+use mir.Syntax.{w8, w64}
 use mir.Val.{Fits}
 use mir.Facts.{fits-and-r}
 use borrow.Author.Needs.{needs}
@@ -13,7 +14,7 @@ use Rattle.convolution.proofs.Folding.{parity-product}
 use Rattle.convolution.proofs.masked_parity.Statement.{statement}
 use Rattle.convolution.proofs.masked_parity.Tie as tie
 
--- The sum does not overflow, whichever bits are summed, and wherever it stands.
+-- A product of two numbers of 32 bits fits 64, whichever bits are summed and whatever the factor.
 product-fits : (n bits factor : ℕ) → bits < 2 ^ 32 → factor < 2 ^ 32 → Fits w64 (bitAnd n bits * factor)
 product-fits n bits factor h k =
     record { fits = lt-of-le-of-lt (mul-le-mul (and-le-r n bits) (le-of-lt k)) (shl-lt 32 32 h) }
@@ -24,8 +25,12 @@ cast-sums c = search (needs, fits-and-r)
 mul-sums : tie.Need-mul-sums
 mul-sums c = search (needs, product-fits)
 
+-- The highest of 32 bits is 0 or 1.
+highest-fits : (n : ℕ) → Fits w8 (bitAnd n 0xFFFF_FFFF / 2 ^ 31)
+highest-fits n = record { fits = omega (arith, and-le-r n 0xFFFF_FFFF) }
+
 cast-result : tie.Need-cast-result
-cast-result c = search needs
+cast-result c = search (needs, highest-fits)
 
 returns : tie.Need-returns
 unfolding parity
