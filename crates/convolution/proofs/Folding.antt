@@ -103,8 +103,8 @@ fieldOnes-all (suc n) =
 product-parts : (q r l : ℕ) → r < 2 ^ 4 → (q * 2 ^ 4 + r) * (l * 2 ^ 4 + 1) / 2 ^ 4 ≡ q * (15 * l + 1) + (q + r) * l
 product-parts q r l h = omega arith
 
--- Without its lowest field, the product with n + 1 ones is the product with n of what is left when the number's lowest field is added to
--- the next, but for what lies above n fields.
+-- Without its lowest field the product with n + 1 ones is, in its n lowest fields, the product with n ones of the number above its lowest
+-- field, to which that field is added.
 product-first : (n z : ℕ)
     → z * fieldOnes (suc n) / 2 ^ 4 ≡ z / 2 ^ 4 * 2 ^ (4 * n) + (z / 2 ^ 4 + z % 2 ^ 4) * fieldOnes n
 unfolding fieldOnes
