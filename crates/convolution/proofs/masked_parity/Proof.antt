@@ -1,5 +1,6 @@
 -- `convolution::masked_parity` meets its contract: two folds, and the sum of the eight bits that they leave.
 -- Assumes nothing.
+use mathlib.Core.Path.{_≡_, refl}
 use Prim.Native.Nat.{ℕ, _*_, _/_, _^_, _<_}
 use native.Mathlib.Nat.{le-of-lt, lt-of-le-of-lt, mul-le-mul}
 use native.Mathlib.Omega.{arith}
@@ -10,7 +11,7 @@ use mir.Val.{Fits}
 use mir.Facts.{fits-and-r}
 use borrow.Author.Needs.{needs}
 use Rattle.convolution.specs.Code.{parity}
-use Rattle.convolution.proofs.Folding.{parity-product}
+use Rattle.convolution.proofs.Folding.{fold, parity-product}
 use Rattle.convolution.proofs.masked_parity.Statement.{statement}
 use Rattle.convolution.proofs.masked_parity.Tie as tie
 
@@ -32,11 +33,18 @@ highest-fits n = record { fits = omega (arith, and-le-r n 0xFFFF_FFFF) }
 cast-result : tie.Need-cast-result
 cast-result c = search (needs, highest-fits)
 
-returns : tie.Need-returns
+-- The law, with the facts about the code apart: its folds are by two and by one, and these are the bits that it sums and the factor.
+parity-found : (mask register folded bits factor : ℕ) → register < 2 ^ 32
+    → folded ≡ fold 1 (fold 2 (bitAnd register mask))
+    → bits ≡ 0x1111_1111
+    → factor ≡ 0x8888_8888
+    → bitAnd (bitAnd folded bits * factor) 0xFFFF_FFFF / 2 ^ 31 ≡ parity mask register
 unfolding parity
-returns c =
-    parity-product (bitAnd (c .args .register) (c .args .mask))
-    (lt-of-le-of-lt (and-le-l (c .args .register) (c .args .mask)) (c .fits .register .fits))
+parity-found mask register folded bits factor h e f g =
+    rw (e, f, g) (parity-product (bitAnd register mask) (lt-of-le-of-lt (and-le-l register mask) h))
+
+returns : tie.Need-returns
+returns c = search (parity-found, refl)
 
 pub masked-parity-spec : {M : Type 1} → statement M
 masked-parity-spec = tie.close (tie.spec cast-sums mul-sums cast-result returns)
