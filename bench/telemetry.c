@@ -78,7 +78,7 @@ wspr_message hand_u4b_write(uint8_t first, uint8_t third, uint8_t grid5, uint8_t
     if (place < 9)
         return refused(14, place);
     position = ((grid5 - 'A') * 24u + (grid6 - 'A')) * 1068 + altitude / 20;
-    sensors = (uint32_t)(temperature / 10 + 50) * 40 + (voltage - 2000) / 50 % 40;
+    sensors = (uint32_t)(temperature + 500) / 10 * 40 + (voltage - 2000) / 50 % 40;
     sensors = ((sensors * 42 + speed / 20) * 2 + gps) * 2 + 1;
     callsign[0] = first;
     callsign[2] = third;

@@ -150,20 +150,20 @@ wspr_message wspr_read_message(const uint8_t *frame, size_t frame_len, uint8_t *
  * turns it into its message, or refuses. */
 wspr_repaired wspr_repair(const uint8_t *frame, size_t frame_len, uint32_t limit, uint32_t budget);
 
-/* The message of a telemetry report: writes its callsign and locator, returns its power. Steps are rounded down, but
- * tenths of a degree are dropped toward zero.
+/* The message of a telemetry report: writes its callsign and locator, returns its power. Each reading is rounded down to
+ * its step.
  *
  *   first        the channel's first character, '0', '1' or 'Q'
  *   third        the channel's third character, '0' to '9'
  *   grid5 grid6  the sub-square's letters, 'A' to 'X' each
  *   altitude     0 to 21,359 metres, in steps of 20
- *   temperature  -500 to 399 tenths of a degree, of which whole degrees are kept
+ *   temperature  -500 to 399 tenths of a degree, in steps of 10
  *   voltage      3,000 to 4,999 millivolts, in steps of 50
  *   speed        0 to 839 tenths of a knot, in steps of 20
  *   gps          0 or 1
  *
- * Refusals 1, 14, in that order: nothing is clamped. What u4b_read gives of the message is the low end of each step;
- * for temperature it is the whole degrees, so that -9 to 9 tenths all give 0. */
+ * Refusals 1, 14, in that order: nothing is clamped. What u4b_read gives of the message is the low end of each step, so
+ * never above what was measured and less than one step below it: -10 to -1 tenths give -1 degree, 0 to 9 give 0. */
 wspr_message u4b_write(uint8_t first, uint8_t third, uint8_t grid5, uint8_t grid6, uint32_t altitude,
                        int32_t temperature, uint32_t voltage, uint32_t speed, uint32_t gps, uint8_t *callsign,
                        size_t callsign_len, uint8_t *locator, size_t locator_len);

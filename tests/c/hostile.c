@@ -444,6 +444,12 @@ static void try_repair(struct generator *g)
     give_back(&frame);
 }
 
+/* The whole number of steps that is at most what was measured and less than one step below it. */
+static int is_low_end(int64_t read, int64_t measured, int64_t step)
+{
+    return read % step == 0 && read <= measured && measured < read + step;
+}
+
 /* The message of a report is read as the low ends of its steps. */
 static void hold_report_in(const struct report_input *r, const struct lent *callsign, const struct lent *locator,
                            uint32_t power)
@@ -454,10 +460,10 @@ static void hold_report_in(const struct report_input *r, const struct lent *call
     hold(t.refusal == 0, "the message of a report is telemetry");
     hold(t.first == r->first && t.third == r->third, "the channel is read back");
     hold(t.grid5 == r->grid5 && t.grid6 == r->grid6, "the sub-square is read back");
-    hold(t.altitude == r->altitude / 20 * 20, "the altitude is read as the low end of its step");
-    hold(t.temperature == r->temperature / 10, "the temperature is read as its whole degrees");
-    hold(t.voltage == r->voltage / 50 * 50, "the voltage is read as the low end of its step");
-    hold(t.speed == r->speed / 20 * 2, "the speed is read as the low end of its step");
+    hold(is_low_end(t.altitude, r->altitude, 20), "the altitude is read as the low end of its step");
+    hold(is_low_end(t.temperature * 10, r->temperature, 10), "the temperature is read as the low end of its step");
+    hold(is_low_end(t.voltage, r->voltage, 50), "the voltage is read as the low end of its step");
+    hold(is_low_end(t.speed * 10, r->speed, 20), "the speed is read as the low end of its step");
     hold(t.gps == r->gps, "GPS is read back");
 }
 

@@ -12,7 +12,8 @@ static const uint32_t edges[] = {
 };
 
 static const int32_t temperature_edges[] = {
-    INT32_MIN, INT32_MIN + 1, -65536 - 500, -501, -500, -499, -10, -9, -1, 0, 9, 10, 398, 399, 400, 65536, INT32_MAX,
+    INT32_MIN, INT32_MIN + 1, -65536 - 500, -501, -500, -499, -491, -490, -11, -10, -9, -5, -1, 0, 9, 10, 389, 390, 399,
+    400, 65536, INT32_MAX,
 };
 
 static size_t draw_length(struct generator *g, size_t exact)

@@ -118,11 +118,40 @@ fn telemetry_in(message: &Message) -> Telemetry {
 fn whole_steps(written: &Telemetry) -> Telemetry {
     Telemetry {
         altitude: written.altitude - written.altitude % 20,
-        temperature: written.temperature / 10,
+        temperature: (written.temperature - written.temperature.rem_euclid(10)) / 10,
         voltage: written.voltage - written.voltage % 50,
         speed: (written.speed - written.speed % 20) / 10,
         ..*written
     }
+}
+
+/// The four readings of a report in the units in which they are written, with their steps.
+fn in_steps(written: &Telemetry) -> [(&'static str, i64, i64); 4] {
+    [
+        ("altitude", i64::from(written.altitude), 20),
+        ("temperature", i64::from(written.temperature), 10),
+        ("voltage", i64::from(written.voltage), 50),
+        ("speed", i64::from(written.speed), 20),
+    ]
+}
+
+/// What reads back is never above what was written and less than one step below it.
+fn assert_within_steps(written: &Telemetry, reading: Telemetry) {
+    let pairs = in_steps(written).into_iter().zip(in_steps(&reading.in_tenths()));
+    for ((name, measured, step), (_, back, _)) in pairs {
+        assert!(
+            (0..step).contains(&(measured - back)),
+            "{name}: {measured} reads back as {back}, in steps of {step}"
+        );
+    }
+}
+
+/// The telemetry of a report's message: each reading is the low end of its step.
+fn read_back(message: &Message, written: &Telemetry) -> Telemetry {
+    let reading = telemetry_in(message);
+    assert_eq!(reading, whole_steps(written), "{message:?}");
+    assert_within_steps(written, reading);
+    reading
 }
 
 /// The bench sheet's report.
@@ -232,7 +261,7 @@ fn every_corner_of_the_ranges_is_written_and_read_back() {
         assert_eq!(check.write(&telemetry).refusal, 0, "{telemetry:?}");
         let message = message_of(&telemetry);
         assert_eq!(check.read_message(&message).refusal, 0, "{message:?}");
-        assert_eq!(telemetry_in(&message), whole_steps(&telemetry), "{message:?}");
+        read_back(&message, &telemetry);
     }
     check.finish(&[("write", 0, 512), ("read", 0, 512)]);
 }
@@ -255,7 +284,7 @@ fn each_is_written_or_refused<Value>(
         let found = check.write(&telemetry);
         if telemetry.in_range()[place] {
             let message = message_of(&telemetry);
-            assert_eq!(telemetry_in(&message), whole_steps(&telemetry), "{message:?}");
+            read_back(&message, &telemetry);
         } else {
             assert_eq!(found, refused_message(14, place as u32), "{telemetry:?}");
         }
@@ -294,21 +323,22 @@ fn every_temperature_is_written_or_refused() {
     each_is_written_or_refused(5, 5, temperatures, set, (900, 9_101 + 2_900 + 129 * 22));
 }
 
-/// Tenths are dropped toward zero: no degree below -50, nineteen tenths of a degree at 0.
+/// Tenths are rounded down: ten to each degree, at zero and at both ends too.
 #[test]
-fn tenths_of_a_degree_are_dropped_toward_zero() {
+fn tenths_of_a_degree_are_rounded_down() {
     let degrees_of = [
         (-500, -50),
-        (-499, -49),
-        (-491, -49),
+        (-499, -50),
+        (-491, -50),
         (-490, -49),
-        (-489, -48),
+        (-489, -49),
         (-20, -2),
-        (-19, -1),
-        (-11, -1),
+        (-19, -2),
+        (-11, -2),
         (-10, -1),
-        (-9, 0),
-        (-1, 0),
+        (-9, -1),
+        (-5, -1),
+        (-1, -1),
         (0, 0),
         (1, 0),
         (9, 0),
@@ -322,6 +352,8 @@ fn tenths_of_a_degree_are_dropped_toward_zero() {
     for (temperature, degrees) in degrees_of {
         let message = message_of(&Telemetry { temperature, ..REPORT });
         assert_eq!(telemetry_in(&message).temperature, degrees, "{temperature} tenths");
+        let code = b_in(&message.locator, message.power) / (40 * 42 * 2 * 2);
+        assert_eq!(code as i32, degrees + 50, "{temperature} tenths");
     }
 }
 
@@ -421,7 +453,7 @@ fn every_b_is_written_and_read_back() {
             for speed in (0..840).step_by(20) {
                 for gps in 0..=1 {
                     let telemetry = Telemetry {
-                        temperature: tenths_of(&mut check.rng, degrees),
+                        temperature: 10 * degrees + check.rng.below(10) as i32,
                         voltage: voltage + check.rng.below(50) as u32,
                         speed: speed + check.rng.below(20) as u32,
                         gps,
@@ -439,20 +471,8 @@ fn assert_written_and_read_back(check: &mut Check, telemetry: &Telemetry) {
     check.write(telemetry);
     let message = message_of(telemetry);
     check.read_message(&message);
-    let reading = telemetry_in(&message);
-    assert_eq!(reading, whole_steps(telemetry), "{message:?}");
+    let reading = read_back(&message, telemetry);
     assert_eq!(message_of(&reading.in_tenths()), message, "{reading:?}");
-}
-
-/// Tenths of a degree that are these degrees once the tenths are dropped.
-fn tenths_of(rng: &mut Rng, degrees: i32) -> i32 {
-    let below = rng.below(10) as i32;
-    match degrees {
-        -50 => -500,
-        0 => rng.below(19) as i32 - 9,
-        ..=-1 => 10 * degrees - below,
-        _ => 10 * degrees + below,
-    }
 }
 
 // Writing: refusals and buffers
@@ -987,7 +1007,7 @@ fn written_telemetry_is_read_back() {
     for _ in 0..300_000 {
         let telemetry = random_telemetry(&mut rng);
         let message = message_of(&telemetry);
-        assert_eq!(telemetry_in(&message), whole_steps(&telemetry), "{message:?}");
+        read_back(&message, &telemetry);
     }
 }
 
@@ -1027,7 +1047,7 @@ fn telemetry_goes_through_a_frame() {
         let read = card::read_message(&frame, &mut callsign, &mut locator);
         assert_eq!(read.refusal, 0, "{telemetry:?}");
         let message = Message { callsign, locator, power: read.power };
-        assert_eq!(telemetry_in(&message), whole_steps(&telemetry), "{message:?}");
+        read_back(&message, &telemetry);
     }
 }
 

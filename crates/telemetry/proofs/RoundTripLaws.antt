@@ -1,4 +1,5 @@
--- The round trips between what is measured and its message, and that the reader refuses exactly the messages that the writer never makes.
+-- The round trips between what is measured and its message, how far what reads back is from what was measured, and that the reader refuses
+-- exactly the messages that the writer never makes.
 use mathlib.Core.Path.{_≡_, refl, sym, ap, _∙_}
 use mathlib.Core.Logic.{_↔_}
 use Prim.Native.Nat.{ℕ, _≤_}
@@ -8,16 +9,18 @@ use Rattle.message.specs.Word.{callsignOf, locatorOf}
 use Rattle.message.specs.Answer.{wordMessage, contentAfter, messageNumbers}
 use Rattle.message.specs.declared.MessageAnswer.{MessageAnswer}
 use Rattle.message.proofs.RoundTripLaws.{unpack-pack, pack-unpack}
+use Rattle.u4b.specs.declared.channel.FirstCharacters.{FirstCharacters}
 use Rattle.u4b.specs.declared.PayloadAnswer.{PayloadAnswer}
 use Rattle.u4b.proofs.AnswerLaws.{writable}
 use Rattle.u4b.proofs.RoundTripLaws as U4b
 use Rattle.telemetry.specs.Payload.{basicBit, payloadFrom}
 use Rattle.telemetry.specs.Answer.{basicFirst, measuredMessage, measuredCallsign, measuredLocator, telemetryWritten, callsignAfterTelemetry, locatorAfterTelemetry, telemetryRead, telemetryIfMessage, wordTelemetry, telemetryNumbers}
-use Rattle.telemetry.specs.RoundTrip.{quantised, inTenths, MeasuredWritesAs, TelemetryReadsBack, TelemetryWritesBack, TelemetryRefused, NeverFromMeasured, TelemetryRefusedExactly, SentAs, WordSentBack, NeverSent, WordTelemetryRefusedExactly}
+use Rattle.telemetry.specs.RoundTrip.{quantised, inTenths, MeasuredWritesAs, TelemetryReadsBack, SensorsWithinSteps, ReadWithinSteps, TelemetryWithinSteps, TelemetryWritesBack, TelemetryRefused, NeverFromMeasured, TelemetryRefusedExactly, SentAs, WordSentBack, NeverSent, WordTelemetryRefusedExactly}
 use Rattle.telemetry.specs.declared.Measured.{Measured}
 use Rattle.telemetry.specs.declared.Reading.{Reading}
 use Rattle.telemetry.specs.declared.TelemetryAnswer.{TelemetryAnswer}
-use Rattle.telemetry.proofs.RangeLaws.{in-range, none-out-of-range}
+use Rattle.telemetry.proofs.RangeLaws.{InRange, in-range, none-out-of-range}
+use Rattle.telemetry.proofs.CodeLaws.{altitude-steps, temperature-steps, voltage-steps, speed-steps}
 use Rattle.telemetry.proofs.NumberLaws.{position-below, sensor-below, lowest-digit, readingOf-payload, again-in-range, payload-again}
 use Rattle.telemetry.proofs.AnswerLaws.{measured-payload, range-of-written, measured-of-written, payload-reading, basic-numbers, read-payload, refused-no-reading, basic}
 
@@ -38,6 +41,23 @@ read-write m power e =
     ∙ basic-numbers p (lowest-digit m r basicBit bit)
     ∙ payload-reading p position sensors
     ∙ ap TelemetryAnswer.Telemetry (readingOf-payload m r basicBit bit)
+
+-- It is never above what was measured and less than one step below it.
+quantised-within-steps : {taken : FirstCharacters} (m : Measured) → InRange taken m → SensorsWithinSteps (m .sensors) (inTenths (quantised m) .sensors)
+unfolding quantised inTenths
+quantised-within-steps m r =
+    let s = m .sensors in
+    record {
+      altitude = altitude-steps (s .altitude);
+      temperature = temperature-steps (s .temperature) (r .temperature);
+      voltage = voltage-steps (s .voltage) (r .voltage .0) (r .voltage .1);
+      speed = speed-steps (s .speed);
+    }
+
+pub read-within-steps : (m : Measured) (power : ℕ) → measuredMessage m ≡ MessageAnswer.Power power
+    → ReadWithinSteps (telemetryRead (measuredCallsign m) (measuredLocator m) power) m
+read-within-steps m power e =
+    rw (read-write m power e) (quantised-within-steps m (in-range basicFirst m (range-of-written m power e .0)))
 
 -- ---- What was read writes back
 
@@ -104,7 +124,8 @@ module _ (callsign locator : List ℕ) (m : Measured) where
       (answer ≡ telemetryWritten callsign locator m)
       × ((messageNumbers answer ≡ messageNumbers (telemetryWritten callsign locator m))
       × ((its-callsign ≡ callsignAfterTelemetry callsign locator m)
-      × ((its-locator ≡ locatorAfterTelemetry callsign locator m) × TelemetryReadsBack answer m its-callsign its-locator)))
+      × ((its-locator ≡ locatorAfterTelemetry callsign locator m)
+      × (TelemetryReadsBack answer m its-callsign its-locator × TelemetryWithinSteps answer m its-callsign its-locator))))
 
   reads-back : (answer : MessageAnswer) → telemetryWritten callsign locator m ≡ answer
       → TelemetryReadsBack answer m (contentAfter answer callsign (measuredCallsign m)) (contentAfter answer locator (measuredLocator m))
@@ -112,10 +133,16 @@ module _ (callsign locator : List ℕ) (m : Measured) where
   reads-back (MessageAnswer.Power power) e = read-write m power (measured-of-written callsign locator m power e)
   reads-back (MessageAnswer.Refused f) e = tt
 
+  within-steps : (answer : MessageAnswer) → telemetryWritten callsign locator m ≡ answer
+      → TelemetryWithinSteps answer m (contentAfter answer callsign (measuredCallsign m)) (contentAfter answer locator (measuredLocator m))
+  unfolding contentAfter
+  within-steps (MessageAnswer.Power power) e = read-within-steps m power (measured-of-written callsign locator m power e)
+  within-steps (MessageAnswer.Refused f) e = tt
+
   pub write-promised : (answer : MessageAnswer) → telemetryWritten callsign locator m ≡ answer
       → WritePromised answer (contentAfter answer callsign (measuredCallsign m)) (contentAfter answer locator (measuredLocator m))
   unfolding callsignAfterTelemetry locatorAfterTelemetry
-  write-promised answer e = (sym e, (rw e, (rw e, (rw e, reads-back answer e))))
+  write-promised answer e = (sym e, (rw e, (rw e, (rw e, (reads-back answer e, within-steps answer e)))))
 
 module _ (callsign locator : List ℕ) (power : ℕ) where
   abbrev pub ReadPromised : TelemetryAnswer → Type 0

@@ -1,7 +1,7 @@
--- The codes of what is measured, and the readings back (01, 'Telemetry').
+-- The codes of what is measured, and the readings back (01, 'Telemetry'; 02, L2).
 use Prim.Native.Nat.{ℕ, _+_, _-_, _*_, _/_, _%_}
 use lib.IntN.{ℤ, pos, natAbs, subℕ, _+ℤ_}
-use lib.Signed.{quotZ}
+use lib.Signed.{shrZ}
 
 -- ---- Codes
 
@@ -9,9 +9,10 @@ use lib.Signed.{quotZ}
 unfoldable pub altitudeCode : ℕ → ℕ
 altitudeCode altitude = altitude / 20
 
--- "drop the tenths toward zero, add 50". In the range the sum is 0 to 89, so that it is its own absolute value.
+-- "Tenths are to be rounded down, as the other three readings are: -5 tenths becomes -1 degree, code 49." `shrZ` divides and rounds down,
+-- below zero too. In the range the sum is 0 to 89, so that it is its own absolute value.
 unfoldable pub temperatureCode : ℤ → ℕ
-temperatureCode tenths = natAbs (quotZ tenths (pos 10) +ℤ pos 50)
+temperatureCode tenths = natAbs (shrZ tenths 10 +ℤ pos 50)
 
 -- "(mV - 2,000) divided by 50, rounded down, modulo 40". In the range the difference doesn't fall below 0.
 unfoldable pub voltageCode : ℕ → ℕ

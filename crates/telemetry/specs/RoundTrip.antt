@@ -1,15 +1,17 @@
--- What writing and reading telemetry promise of each other (demand 2): the round trips, and that the reader refuses exactly the
--- messages that the writer never makes.
+-- What writing and reading telemetry promise of each other (demand 2): the round trips, how far what reads back is from what was measured
+-- (02, L2), and that the reader refuses exactly the messages that the writer never makes.
 use Prim.Native.Nat.{ℕ, _*_}
 use mathlib.Core.Path.{_≡_}
 use mathlib.Core.Logic.{_↔_}
 use mathlib.Core.List.{List}
 use lib.IntN.{pos, _*ℤ_}
+use Rattle.basics.specs.Rounding.{WithinStepBelow}
 use Rattle.message.specs.Answer.{messagePacked}
 use Rattle.message.specs.declared.MessageAnswer.{MessageAnswer}
 use Rattle.message.specs.declared.WordAnswer.{WordAnswer}
 use Rattle.telemetry.specs.Codes.{altitudeCode, temperatureCode, voltageCode, speedCode, metres, degrees, millivolts, knots}
 use Rattle.telemetry.specs.Answer.{measuredMessage, measuredCallsign, measuredLocator, telemetryRead}
+use Rattle.telemetry.specs.declared.Sensors.{Sensors}
 use Rattle.telemetry.specs.declared.Measured.{Measured}
 use Rattle.telemetry.specs.declared.Reading.{Reading}
 use Rattle.telemetry.specs.declared.TelemetryAnswer.{TelemetryAnswer}
@@ -56,6 +58,24 @@ pub record MeasuredWritesAs (m : Measured) (callsign locator : List ℕ) (power 
 abbrev pub TelemetryReadsBack : MessageAnswer → Measured → List ℕ → List ℕ → Type 0
 TelemetryReadsBack (MessageAnswer.Power p) m callsign locator = telemetryRead callsign locator p ≡ TelemetryAnswer.Telemetry (quantised m)
 TelemetryReadsBack (MessageAnswer.Refused f) m callsign locator = Unit
+
+-- "the reading sent back is never above the true one and less than one step below it, for altitude, temperature, voltage and speed alike, in
+-- exact whole numbers": in metres, tenths of a degree, millivolts and tenths of a knot, as they were measured.
+pub record SensorsWithinSteps (measured back : Sensors) : Type 0 where
+  pub altitude : WithinStepBelow 20 (pos (measured .altitude)) (pos (back .altitude))
+  pub temperature : WithinStepBelow 10 (measured .temperature) (back .temperature)
+  pub voltage : WithinStepBelow 50 (pos (measured .voltage)) (pos (back .voltage))
+  pub speed : WithinStepBelow 20 (pos (measured .speed)) (pos (back .speed))
+
+-- The answer has readings, and these are within steps of what was measured.
+abbrev pub ReadWithinSteps : TelemetryAnswer → Measured → Type 0
+ReadWithinSteps (TelemetryAnswer.Telemetry r) m = SensorsWithinSteps (m .sensors) (inTenths r .sensors)
+ReadWithinSteps (TelemetryAnswer.Refused f) m = ⊥
+
+-- What was written reads back within steps: the callsign and locator with the answer's power, where it has one.
+abbrev pub TelemetryWithinSteps : MessageAnswer → Measured → List ℕ → List ℕ → Type 0
+TelemetryWithinSteps (MessageAnswer.Power p) m callsign locator = ReadWithinSteps (telemetryRead callsign locator p) m
+TelemetryWithinSteps (MessageAnswer.Refused f) m callsign locator = Unit
 
 -- What was read writes back: the answer's readings, where it has them, write the same message.
 abbrev pub TelemetryWritesBack : TelemetryAnswer → List ℕ → List ℕ → ℕ → Type 0

@@ -31,12 +31,14 @@ const SENSOR_COUNT: u64 = 604_800;
 // The lowest digit in basic telemetry.
 pub(crate) const BASIC_BIT: u64 = 1;
 
-// The code of a temperature in tenths of a degree. Signed division drops the tenths toward zero.
+// The code of a temperature in tenths of a degree, rounded down. Signed division rounds up where it
+// leaves a remainder below zero.
 fn temperature_code(tenths: i32) -> u64
     requires { ⌜ temperatureInRange tenths ≡ true ⌝ }
     ensures { λ r. ⌜ r ≡ temperatureCode tenths ⌝ }
 {
-    (tenths / 10 + 50) as u64
+    let rounded_up = if tenths % 10 < 0 { 1 } else { 0 };
+    (tenths / 10 - rounded_up + 50) as u64
 }
 
 // The code of a voltage in millivolts.

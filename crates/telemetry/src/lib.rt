@@ -5,7 +5,7 @@ mod range;
 ghost use mathlib.Core.Path.{_≡_};
 ghost use Rattle.message.specs.Answer.{messageNumbers};
 ghost use Rattle.telemetry.specs.Answer.{telemetryWritten, callsignAfterTelemetry, locatorAfterTelemetry, telemetryRead, wordTelemetry, telemetryNumbers};
-ghost use Rattle.telemetry.specs.RoundTrip.{TelemetryReadsBack, TelemetryWritesBack, TelemetryRefusedExactly, WordSentBack, WordTelemetryRefusedExactly};
+ghost use Rattle.telemetry.specs.RoundTrip.{TelemetryReadsBack, TelemetryWithinSteps, TelemetryWritesBack, TelemetryRefusedExactly, WordSentBack, WordTelemetryRefusedExactly};
 use message::MessageAnswer;
 use refusal::OUT_OF_RANGE;
 use refusal::Refusal;
@@ -53,6 +53,7 @@ pub fn write(measured: Measured, callsign: &mut [u8], locator: &mut [u8]) -> Mes
     ensures callsign_after { λ _. ⌜ now (callsign .exit) ≡ callsignAfterTelemetry (now (callsign .entry)) (now (locator .entry)) measured ⌝ }
     ensures locator_after { λ _. ⌜ now (locator .exit) ≡ locatorAfterTelemetry (now (callsign .entry)) (now (locator .entry)) measured ⌝ }
     ensures reads_back { λ r. ⌜ TelemetryReadsBack r measured (now (callsign .exit)) (now (locator .exit)) ⌝ }
+    ensures within_steps { λ r. ⌜ TelemetryWithinSteps r measured (now (callsign .exit)) (now (locator .exit)) ⌝ }
 {
     if !message::right_lengths(callsign.len(), locator.len()) {
         return MessageAnswer::Refused(Refusal {

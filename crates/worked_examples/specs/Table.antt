@@ -1,4 +1,5 @@
--- The worked examples (01, 'Bench sheet') that are marked P, as a table: what the definitions give, and what 01 says.
+-- The worked examples (01, 'Bench sheet') that are marked P, and 02's of L2, as a table: what the definitions give, and what the papers
+-- say.
 use Prim.Native.Nat.{ℕ}
 use Prim.Native.String.{String}
 use mathlib.Core.Path.{_≡_}
@@ -7,13 +8,13 @@ use lib.IntN.{pos, negℤ}
 use Rattle.basics.specs.Ascii.{bytes}
 use Rattle.message.specs.Word.{callsignNumber, locatorNumber, lowerNumber}
 use Rattle.message.specs.Answer.{messageNumbers}
-use Rattle.telemetry.specs.Codes.{altitudeCode, voltageCode, millivolts}
+use Rattle.telemetry.specs.Codes.{altitudeCode, temperatureCode, voltageCode, millivolts}
 use Rattle.telemetry.specs.Payload.{positionNumber, basicBit, sensorNumber}
 use Rattle.u4b.specs.Characters.{callsignWith, locatorWith, powerWith, lowerOf}
 use Rattle.telemetry.specs.Answer.{measuredMessage, measuredCallsign, measuredLocator, telemetryRead, telemetryNumbers}
 use Rattle.telemetry.specs.declared.Measured.{Measured}
 
--- A row: the numbers that the definitions give, and those that 01 states.
+-- A row: the numbers that the definitions give, and those that the papers state.
 pub record Row : Type 0 where
   pub given : List ℕ
   pub stated : List ℕ
@@ -82,9 +83,11 @@ examples =
     -- 'altitude 21,359 is code 1,067; 21,360 is refused 14, place 4.'
     ∷ number (altitudeCode 21_359) 1_067
     ∷ writeRefused (measuredAt 21_360) 14 4
+    -- 02, L2: '-5 tenths becomes -1 degree, code 49.'
+    ∷ number (temperatureCode (negℤ (pos 5))) 49
     ∷ []
 
--- The statement: row by row, the definitions give what 01 states.
+-- The statement: row by row, the definitions give what the papers state.
 unfoldable pub Agrees : List Row → Type 0
 Agrees [] = Unit
 Agrees (r ∷ rs) = (r .given ≡ r .stated) × Agrees rs

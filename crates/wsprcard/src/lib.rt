@@ -8,7 +8,7 @@ ghost use Rattle.frame.specs.RoundTrip.{WordReadsBack, WordWritesBack, WordRefu
 ghost use Rattle.repair.specs.Answer.{frameRepaired, repairNumbers};
 ghost use Rattle.repair.specs.Demand.{AsChecked, AsDemanded, TwoFlipsRepaired};
 ghost use Rattle.telemetry.specs.Answer.{telemetryWritten, telemetryRead, telemetryNumbers, callsignAfterTelemetry, locatorAfterTelemetry};
-ghost use Rattle.telemetry.specs.RoundTrip.{TelemetryReadsBack, TelemetryWritesBack, TelemetryRefusedExactly};
+ghost use Rattle.telemetry.specs.RoundTrip.{TelemetryReadsBack, TelemetryWithinSteps, TelemetryWritesBack, TelemetryRefusedExactly};
 ghost use Rattle.wsprcard.specs.Results.{writtenResult, wordResult, messageResult, repairedResult, readingResult, writeAnswerIn, wordAnswerIn, messageAnswerIn, repairAnswerIn, telemetryAnswerIn, measuredFrom};
 use frame::WriteAnswer;
 use message::MessageAnswer;
@@ -275,6 +275,7 @@ pub extern "C" fn u4b_write(
     ensures callsign_after { λ _. ⌜ now (callsign .exit) ≡ callsignAfterTelemetry (now (callsign .entry)) (now (locator .entry)) (measuredFrom first third grid5 grid6 altitude temperature voltage speed gps) ⌝ }
     ensures locator_after { λ _. ⌜ now (locator .exit) ≡ locatorAfterTelemetry (now (callsign .entry)) (now (locator .entry)) (measuredFrom first third grid5 grid6 altitude temperature voltage speed gps) ⌝ }
     ensures reads_back { λ r. ⌜ TelemetryReadsBack (messageAnswerIn r) (measuredFrom first third grid5 grid6 altitude temperature voltage speed gps) (now (callsign .exit)) (now (locator .exit)) ⌝ }
+    ensures within_steps { λ r. ⌜ TelemetryWithinSteps (messageAnswerIn r) (measuredFrom first third grid5 grid6 altitude temperature voltage speed gps) (now (callsign .exit)) (now (locator .exit)) ⌝ }
 {
     let measured = Measured {
         channel: Channel { first, third },

@@ -95,9 +95,10 @@ pub fn a_of(telemetry: &Telemetry) -> u32 {
     (g5 * 24 + g6) * 1068 + telemetry.altitude / 20
 }
 
-/// B of inputs in their ranges. Rust divides signed numbers toward zero.
+/// B of inputs in their ranges. Tenths of a degree are rounded down, below zero too: -5 are -1
+/// degree, and the remainder left over is never below zero.
 pub fn b_of(telemetry: &Telemetry) -> u32 {
-    let temperature = (telemetry.temperature / 10 + 50) as u32;
+    let temperature = (telemetry.temperature.div_euclid(10) + 50) as u32;
     let voltage = (telemetry.voltage - 2_000) / 50 % 40;
     let speed = telemetry.speed / 20;
     (((temperature * 40 + voltage) * 42 + speed) * 2 + telemetry.gps) * 2 + 1
