@@ -150,8 +150,8 @@ wspr_message wspr_read_message(const uint8_t *frame, size_t frame_len, uint8_t *
  * turns it into its message, or refuses. */
 wspr_repaired wspr_repair(const uint8_t *frame, size_t frame_len, uint32_t limit, uint32_t budget);
 
-/* The message of a telemetry report: writes its callsign and locator, returns its power. Each reading is rounded down to
- * its step.
+/* The message of a telemetry report: writes its callsign and locator, returns its power. Each reading is rounded down
+ * to its step.
  *
  *   first        the channel's first character, '0', '1' or 'Q'
  *   third        the channel's third character, '0' to '9'

@@ -352,7 +352,7 @@ fn tenths_of_a_degree_are_rounded_down() {
     for (temperature, degrees) in degrees_of {
         let message = message_of(&Telemetry { temperature, ..REPORT });
         assert_eq!(telemetry_in(&message).temperature, degrees, "{temperature} tenths");
-        let code = b_in(&message.locator, message.power) / (40 * 42 * 2 * 2);
+        let code = reference::b_in(&message.locator, message.power) / (40 * 42 * 2 * 2);
         assert_eq!(code as i32, degrees + 50, "{temperature} tenths");
     }
 }

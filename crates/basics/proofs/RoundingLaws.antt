@@ -1,10 +1,10 @@
--- The law of steps: a value rounded down to steps is never above it and less than one step below it.
-use mathlib.Core.Path.{_≡_, refl, sym, ap, _∙_, subst}
+-- The law of steps: what a value is rounded down to is never above it and less than one step below it.
+use mathlib.Core.Path.{_≡_, ap, _∙_, subst}
 use Prim.Native.Nat.{ℕ, zero, suc, _+_, _-_, _*_, _/_, _≤_, _<_}
 use native.Mathlib.Nat.{mul-div-le, lt-mul-div-succ}
 use native.Mathlib.Omega.{arith}
-use lib.Dec.{T, leb, le→leb, lt→ltb, leb→le}
-use lib.IntN.{ℤ, pos, negsuc, natAbs, subℕ, _+ℤ_, _-ℤ_, +ℤ-assoc, +ℤ-comm, +ℤ-invl, +ℤ-idr}
+use lib.Dec.{T, le→leb, lt→ltb, leb→le}
+use lib.IntN.{ℤ, pos, negsuc, natAbs, subℕ, _+ℤ_, _-ℤ_, +ℤ-assoc, +ℤ-comm, -ℤ-+ℤ-cancel}
 use lib.Signed.{nonNeg, _≤ℤ_, _<ℤ_, leZ-yes, ltZ-yes, pos-natAbs}
 use borrow.Author.Tests.{le-ltb, lt-ltb}
 use Rattle.basics.specs.Rounding.{WithinStepBelow}
@@ -54,9 +54,7 @@ above : (a b : ℤ) → a ≤ℤ b → a +ℤ pos (natAbs (b -ℤ a)) ≡ b
 above a b h =
     ap (λ (d : ℤ). a +ℤ d) (pos-natAbs (b -ℤ a) (difference-nonNeg a b h))
     ∙ +ℤ-comm a (b -ℤ a)
-    ∙ +ℤ-assoc b _ a
-    ∙ ap (λ (d : ℤ). b +ℤ d) (+ℤ-invl a)
-    ∙ +ℤ-idr b
+    ∙ -ℤ-+ℤ-cancel b a
 
 -- ---- The law
 

@@ -1,4 +1,5 @@
--- Laws of the codes: each is below its count for what is in range, and what is read back of a code has that code again.
+-- Laws of the codes: each is below its count for what is in range, what is read back of a code has that code again, and what reads back of
+-- a measured value is that value rounded down to steps.
 use mathlib.Core.Path.{_≡_, refl, ap, _∙_}
 use Prim.Native.Nat.{ℕ, zero, suc, _+_, _-_, _*_, _/_, _%_, _≤_, _<_}
 use native.Mathlib.Omega.{arith}
@@ -21,7 +22,7 @@ use Rattle.telemetry.specs.Codes.{altitudeCode, temperatureCode, voltage
 
 -- ---- Temperature
 
--- Below zero, k tens.
+-- The quotient is no larger than the number.
 minus-small : (k : ℕ) → mag (negℤ (pos k)) ≤ k
 minus-small zero = omega arith
 minus-small (suc k) = omega arith
@@ -59,7 +60,7 @@ quotient-down (negsuc n) e =
 difference : (a b : ℕ) → b ≤ a → subℕ a b ≡ pos (a - b)
 difference a b h = rw (le-ltb a b h)
 
--- A temperature in range: its code, as the sum of which it is the absolute value.
+-- A temperature in range: its code, as the sum of which it is the absolute value, and as the number of whole degrees above -50.
 pub record Coded (tenths : ℤ) : Type 0 where
   pub sum : shrZ tenths 10 +ℤ pos 50 ≡ pos (temperatureCode tenths)
   pub below : temperatureCode tenths < 90

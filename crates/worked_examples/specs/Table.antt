@@ -83,7 +83,7 @@ examples =
     -- 'altitude 21,359 is code 1,067; 21,360 is refused 14, place 4.'
     ∷ number (altitudeCode 21_359) 1_067
     ∷ writeRefused (measuredAt 21_360) 14 4
-    -- 02, L2: '-5 tenths becomes -1 degree, code 49.'
+    -- 02, L2: '-5 tenths becomes .. code 49.'
     ∷ number (temperatureCode (negℤ (pos 5))) 49
     ∷ []
 
