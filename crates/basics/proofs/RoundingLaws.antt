@@ -1,10 +1,10 @@
 -- The law of steps: what a value is rounded down to is never above it and less than one step below it.
-use mathlib.Core.Path.{_≡_, ap, _∙_, subst}
+use mathlib.Core.Path.{_≡_, sym, ap, _∙_, subst}
 use Prim.Native.Nat.{ℕ, zero, suc, _+_, _-_, _*_, _/_, _≤_, _<_}
 use native.Mathlib.Nat.{mul-div-le, lt-mul-div-succ}
 use native.Mathlib.Omega.{arith}
 use lib.Dec.{T, le→leb, lt→ltb, leb→le}
-use lib.IntN.{ℤ, pos, negsuc, natAbs, subℕ, _+ℤ_, _-ℤ_, +ℤ-assoc, +ℤ-comm, -ℤ-+ℤ-cancel}
+use lib.IntN.{ℤ, pos, negsuc, natAbs, sucℤ, subℕ, _+ℤ_, _-ℤ_, +ℤ-assoc, +ℤ-comm, +ℤ-sucℤ, -ℤ-+ℤ-cancel}
 use lib.Signed.{nonNeg, _≤ℤ_, _<ℤ_, leZ-yes, ltZ-yes, pos-natAbs}
 use borrow.Author.Tests.{le-ltb, lt-ltb}
 use Rattle.basics.specs.Rounding.{WithinStepBelow}
@@ -23,21 +23,20 @@ subℕ-mono-≤ m n k h =
     (λ n-high. rw (lt-ltb m k m-low, le-ltb n k n-high) (leZ-yes tt)))
     (λ m-high. rw (le-ltb m k m-high, le-ltb n k (omega arith)) (pos-≤ (m - k) (n - k) (omega arith)))
 
-subℕ-mono-< : (m n k : ℕ) → m < n → subℕ m k <ℤ subℕ n k
-subℕ-mono-< m n k h =
-    below-or-not m k
-    (λ m-low. below-or-not n k
-    (λ n-low. rw (lt-ltb m k m-low, lt-ltb n k n-low) (ltZ-yes (lt→ltb (k - suc n) (k - suc m) (omega arith))))
-    (λ n-high. rw (lt-ltb m k m-low, le-ltb n k n-high) (ltZ-yes tt)))
-    (λ m-high. rw (le-ltb m k m-high, le-ltb n k (omega arith)) (ltZ-yes (lt→ltb (m - k) (n - k) (omega arith))))
-
 +ℤ-mono-≤ : (a : ℤ) (m n : ℕ) → m ≤ n → (a +ℤ pos m) ≤ℤ (a +ℤ pos n)
 +ℤ-mono-≤ (pos a) m n h = pos-≤ (a + m) (a + n) (omega arith)
 +ℤ-mono-≤ (negsuc a) m n h = subℕ-mono-≤ m n (suc a) h
 
+-- Below is at most, of the successor.
+suc-≤ : (a b : ℤ) → sucℤ a ≤ℤ b → a <ℤ b
+suc-≤ (pos a) (pos b) h = ltZ-yes (h .le)
+suc-≤ (pos a) (negsuc b) h = absurd (h .le)
+suc-≤ (negsuc a) (pos b) h = ltZ-yes tt
+suc-≤ (negsuc zero) (negsuc b) h = absurd (h .le)
+suc-≤ (negsuc (suc a)) (negsuc b) h = ltZ-yes (lt→ltb b (suc a) (omega (arith, leb→le b a (h .le))))
+
 +ℤ-mono-< : (a : ℤ) (m n : ℕ) → m < n → (a +ℤ pos m) <ℤ (a +ℤ pos n)
-+ℤ-mono-< (pos a) m n h = ltZ-yes (lt→ltb (a + m) (a + n) (omega arith))
-+ℤ-mono-< (negsuc a) m n h = subℕ-mono-< m n (suc a) h
++ℤ-mono-< a m n h = suc-≤ _ _ (rw (sym (+ℤ-sucℤ a (pos m))) (+ℤ-mono-≤ a (suc m) n h))
 
 -- ---- What a value is above another
 
