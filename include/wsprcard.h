@@ -43,8 +43,12 @@
  *   18 two or more words share the fewest disagreements          0
  *
  * Callsign places 0 to 5: 0 is 0-9, A-Z or space; 1 is 0-9 or A-Z; 2 is 0-9; 3 to 5 are A-Z or
- * space. Locator places 6 to 9: 6 and 7 are A-R, 8 and 9 are 0-9. Capitals only. The powers are
+ * space. Locator places 6 to 9: 6 and 7 are A-R, 8 and 9 are 0-9. The powers are
  * 0 3 7 10 13 17 20 23 27 30 33 37 40 43 47 50 53 57 60 dBm.
+ *
+ * Small letters of a callsign and a locator count as their capitals: a call answers what it answers
+ * to the capital form, the message with a to z replaced by A to Z, refusals too. What a call writes
+ * or returns is capitals only.
  *
  * A frame is one byte a symbol, each 0 to 3, in the order in which they are sent. A symbol is its sync
  * bit (the symbol modulo 2) and twice its data bit.
@@ -153,7 +157,8 @@ wspr_repaired wspr_repair(const uint8_t *frame, size_t frame_len, uint32_t limit
 /* The message of a telemetry report: writes its callsign and locator, returns its power. Each reading is rounded down
  * to its step.
  *
- *   first        the channel's first character, '0', '1' or 'Q'
+ *   first        the channel's first character, '0', '1' or 'Q'; 'q' is out of range, as are the
+ *                small letters of the sub-square: they stand by themselves, and not in a message
  *   third        the channel's third character, '0' to '9'
  *   grid5 grid6  the sub-square's letters, 'A' to 'X' each
  *   altitude     0 to 21,359 metres, in steps of 20
@@ -170,8 +175,8 @@ wspr_message u4b_write(uint8_t first, uint8_t third, uint8_t grid5, uint8_t grid
 
 /* The telemetry of a message: first, third, grid5 and grid6 as u4b_write takes them; altitude 0 to 21,340 metres,
  * temperature -50 to 39 degrees, voltage 3,000 to 4,950 millivolts, speed 0 to 82 knots, gps 0 or 1. Refusals 1, 2, 3,
- * 10, 11, 12, 13, in that order: exactly for the messages that u4b_write never makes. Of what is read, u4b_write makes
- * the same message again, with temperature and speed times 10. */
+ * 10, 11, 12, 13, in that order: exactly for the messages whose capital form u4b_write never makes. Of what is read,
+ * u4b_write makes the message's capital form again, with temperature and speed times 10. */
 u4b_reading u4b_read(const uint8_t *callsign, size_t callsign_len, const uint8_t *locator, size_t locator_len,
                      uint32_t power);
 

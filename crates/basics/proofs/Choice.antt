@@ -66,9 +66,3 @@ module _ {A : Type 0} (m n : ℕ) where
 
   pub equal-or-not : (m ≡ n → A) → ((m ≡ n → ⊥) → A) → A
   equal-or-not f g = by-test (eqb m n) (λ e. f (eqb-true m n e)) (λ e. g (eqb-false m n e))
-
--- ---- Answers
-
--- An equation of an answer, and that of what is made of it.
-pub also : {A B : Type 0} {a b : A} (f : A → B) → a ≡ b → (a ≡ b) × (f a ≡ f b)
-also f e = (e, ap f e)

@@ -6,9 +6,9 @@ use native.Mathlib.Nat.{add-suc, add-zero, suc-add, zero-add}
 use native.Mathlib.Numerals.{add-one}
 use native.Mathlib.Omega.{arith}
 use mathlib.Core.Bool.{Bool, true, false, not, true≢false, false≢true}
-use mathlib.Core.List.{List, [], _∷_, _++_}
+use mathlib.Core.List.{List, [], _∷_, _++_, map}
 use lib.Dec.{eqb}
-use lib.ListN.{length, getD, drop, drop-of-length-le}
+use lib.ListN.{length, getD, take, drop, drop-of-length-le}
 use lib.Seq.{drop-cons, getD-drop, ext-getD}
 use borrow.Author.Tests.{eqb-true, eq-eqb, ne-eqb}
 use Rattle.basics.specs.Lists.{tabulate, firstFailing, isOther, indexIn, sameList}
@@ -18,6 +18,17 @@ use Rattle.basics.proofs.Choice.{both-true, by-test, equal-or-not}
 
 pub head-at : (i : ℕ) (l : List ℕ) → getD (drop i l) 0 0 ≡ getD l i 0
 head-at i l = rw (add-zero i) at (getD-drop i l 0 0)
+
+-- A part of a list whose elements are changed is the part of the list, changed.
+pub take-map : (f : ℕ → ℕ) (n : ℕ) (xs : List ℕ) → take n (map f xs) ≡ map f (take n xs)
+take-map f zero xs = refl
+take-map f (suc n) [] = refl
+take-map f (suc n) (x ∷ xs) = ap (λ (l : List ℕ). f x ∷ l) (take-map f n xs)
+
+pub drop-map : (f : ℕ → ℕ) (n : ℕ) (xs : List ℕ) → drop n (map f xs) ≡ map f (drop n xs)
+drop-map f zero xs = refl
+drop-map f (suc n) [] = refl
+drop-map f (suc n) (x ∷ xs) = drop-map f n xs
 
 -- ---- A list by a rule
 
@@ -69,6 +80,13 @@ module _ {A : Type 0} (test : ℕ → A → Bool) where
       by-test (test place x)
       (λ e. omega (arith, first-passed place x xs e, firstFailing-end (suc place) xs))
       (λ e. omega (arith, first-failed place x xs e))
+
+  -- Where a change of the elements leaves the test's answers alone, the place is as before.
+  pub firstFailing-map : (f : A → A) → ((place : ℕ) (x : A) → test place (f x) ≡ test place x) → (place : ℕ) (xs : List A)
+      → firstFailing test place (map f xs) ≡ firstFailing test place xs
+  unfolding firstFailing
+  firstFailing-map f same place [] = refl
+  firstFailing-map f same place (x ∷ xs) = rw (same place x, firstFailing-map f same (suc place) xs)
 
   -- None fails exactly where all pass.
   pub all-pass : (place : ℕ) (xs : List A) → place + length xs ≤ firstFailing test place xs → AllPass place xs

@@ -9,12 +9,14 @@ use Rattle.basics.proofs.Choice.{cond-passed, by-test}
 use Rattle.basics.proofs.ListLaws.{sameList-equal}
 use Rattle.refusal.specs.declared.Refusal.{Refusal}
 use Rattle.refusal.specs.Refusals.{refusal, noWord}
+use Rattle.message.specs.Character.{capitalForm}
 use Rattle.message.specs.Answer.{rightLengths, messagePacked, wordUnpacked, callsignAfterUnpack, locatorAfterUnpack, contentAfter, wordNumbers, messageNumbers}
 use Rattle.message.specs.Word.{wordOf, callsignOf, locatorOf}
-use Rattle.message.specs.RoundTrip.{WordRefused, MessageRefused}
+use Rattle.message.specs.RoundTrip.{WrittenInCapitals, WordRefused, MessageRefused}
 use Rattle.message.specs.declared.WordAnswer.{WordAnswer}
 use Rattle.message.specs.declared.MessageAnswer.{MessageAnswer}
 use Rattle.message.proofs.AnswerLaws.{right-lengths, unpacked-read, refused-no-power}
+use Rattle.message.proofs.CapitalLaws.{packed-capitals, word-capitals}
 use Rattle.message.proofs.RoundTripLaws.{unpack-pack, pack-unpack}
 use Rattle.convolution.specs.Decoding.{decodedWord}
 use Rattle.convolution.proofs.DecodingLaws.{decodedWord-below}
@@ -89,9 +91,9 @@ no-word-refused frame = (
 
 -- ---- A message and its frame
 
--- A message's frame reads as the message.
+-- A message's frame reads as the message's capital form.
 reads-as : (callsign locator : List ℕ) (power word : ℕ) → messagePacked callsign locator power ≡ WordAnswer.Word word
-    → ReadsAsMessage (frameOf word) callsign locator power
+    → ReadsAsMessage (frameOf word) (capitalForm callsign) (capitalForm locator) power
 unfolding messageRead callsignAfterRead locatorAfterRead messageIfWord callsignIfWord locatorIfWord callsignAfterUnpack locatorAfterUnpack contentAfter
 reads-as callsign locator power word made c l six four =
     let back = unpack-pack callsign locator power word made in
@@ -109,6 +111,17 @@ message-reads-back callsign locator power frame = go (messageWritten callsign lo
         rw (after-message-done callsign locator power frame e)
         (reads-as callsign locator power (wordOf callsign locator power) (done-of-message callsign locator power frame e .1))
     go (WriteAnswer.Refused f) e = tt
+
+-- Small letters count as their capitals.
+written-capitals : (callsign locator : List ℕ) (power : ℕ) (frame : List ℕ)
+    → messageWritten (capitalForm callsign) (capitalForm locator) power frame ≡ messageWritten callsign locator power frame
+unfolding messageWritten
+written-capitals callsign locator power frame = rw (packed-capitals callsign locator power)
+
+after-capitals : (callsign locator : List ℕ) (power : ℕ) (frame : List ℕ)
+    → frameAfterMessage (capitalForm callsign) (capitalForm locator) power frame ≡ frameAfterMessage callsign locator power frame
+unfolding frameAfterMessage
+after-capitals callsign locator power frame = rw (written-capitals callsign locator power frame, word-capitals callsign locator power)
 
 -- A message with this word writes its frame.
 writes-as : (callsign locator : List ℕ) (power word : ℕ) (frame : List ℕ) → messagePacked callsign locator power ≡ WordAnswer.Word word
@@ -176,11 +189,17 @@ module _ (callsign locator : List ℕ) (power : ℕ) (frame : List ℕ) where
   WriteMessagePromised answer content =
       (answer ≡ messageWritten callsign locator power frame)
       × ((writeNumbers answer ≡ writeNumbers (messageWritten callsign locator power frame))
-      × ((content ≡ frameAfterMessage callsign locator power frame) × MessageReadsBack answer callsign locator power content))
+      × ((content ≡ frameAfterMessage callsign locator power frame)
+      × ((answer ≡ messageWritten (capitalForm callsign) (capitalForm locator) power frame)
+      × ((content ≡ frameAfterMessage (capitalForm callsign) (capitalForm locator) power frame)
+      × MessageReadsBack answer callsign locator power content))))
 
   pub write-message-promised : (answer : WriteAnswer) (content : List ℕ) → answer ≡ messageWritten callsign locator power frame
       → content ≡ frameAfterMessage callsign locator power frame → WriteMessagePromised answer content
-  write-message-promised answer content e e₂ = (e, (ap writeNumbers e, (e₂, rw (e, e₂) (message-reads-back callsign locator power frame))))
+  write-message-promised answer content e e₂ =
+      let as-capitals = e ∙ sym (written-capitals callsign locator power frame) in
+      let frame-as-capitals = e₂ ∙ sym (after-capitals callsign locator power frame) in
+      (e, (ap writeNumbers e, (e₂, (as-capitals, (frame-as-capitals, rw (e, e₂) (message-reads-back callsign locator power frame))))))
 
   pub write-message-refused : (f : Refusal) → messageWritten callsign locator power frame ≡ WriteAnswer.Refused f
       → WriteMessagePromised (WriteAnswer.Refused f) frame
@@ -205,25 +224,27 @@ module _ (frame callsign locator : List ℕ) where
       × ((messageNumbers answer ≡ messageNumbers (messageRead frame callsign locator))
       × ((its-callsign ≡ callsignAfterRead frame callsign locator)
       × ((its-locator ≡ locatorAfterRead frame callsign locator)
-      × (MessageWritesBack answer frame its-callsign its-locator × MessageRefusedExactly answer frame callsign locator))))
+      × (MessageWritesBack answer frame its-callsign its-locator
+      × (WrittenInCapitals answer its-callsign its-locator × MessageRefusedExactly answer frame callsign locator)))))
 
   read-message-promised : (answer : MessageAnswer) (its-callsign its-locator : List ℕ) → answer ≡ messageRead frame callsign locator
       → its-callsign ≡ callsignAfterRead frame callsign locator → its-locator ≡ locatorAfterRead frame callsign locator
-      → ReadMessagePromised answer its-callsign its-locator
-  read-message-promised answer its-callsign its-locator e e₂ e₃ =
+      → WrittenInCapitals answer its-callsign its-locator → ReadMessagePromised answer its-callsign its-locator
+  read-message-promised answer its-callsign its-locator e e₂ e₃ in-capitals =
       let back : MessageWritesBack answer frame its-callsign its-locator = rw (e, e₂, e₃) (message-writes-back frame callsign locator) in
       let exactly : MessageRefusedExactly answer frame callsign locator = rw e (message-refused-exactly frame callsign locator) in
-      (e, (ap messageNumbers e, (e₂, (e₃, (back, exactly)))))
+      (e, (ap messageNumbers e, (e₂, (e₃, (back, (in-capitals, exactly))))))
 
   -- The first refusal is the one returned.
   pub read-message-refused : (f : Refusal) → wordRead frame ≡ WordAnswer.Refused f → ReadMessagePromised (MessageAnswer.Refused f) callsign locator
   unfolding messageRead callsignAfterRead locatorAfterRead messageIfWord callsignIfWord locatorIfWord
-  read-message-refused f e = read-message-promised (MessageAnswer.Refused f) callsign locator (rw e) (rw e) (rw e)
+  read-message-refused f e = read-message-promised (MessageAnswer.Refused f) callsign locator (rw e) (rw e) (rw e) tt
 
   -- A frame with a word is read as the word is.
   pub read-message-word : (word : ℕ) (answer : MessageAnswer) (its-callsign its-locator : List ℕ) → wordRead frame ≡ WordAnswer.Word word
       → answer ≡ wordUnpacked callsign locator word → its-callsign ≡ callsignAfterUnpack callsign locator word
-      → its-locator ≡ locatorAfterUnpack callsign locator word → ReadMessagePromised answer its-callsign its-locator
+      → its-locator ≡ locatorAfterUnpack callsign locator word → WrittenInCapitals answer its-callsign its-locator
+      → ReadMessagePromised answer its-callsign its-locator
   unfolding messageRead callsignAfterRead locatorAfterRead messageIfWord callsignIfWord locatorIfWord
-  read-message-word word answer its-callsign its-locator e e₂ e₃ e₄ =
-      read-message-promised answer its-callsign its-locator (rw e e₂) (rw e e₃) (rw e e₄)
+  read-message-word word answer its-callsign its-locator e e₂ e₃ e₄ in-capitals =
+      read-message-promised answer its-callsign its-locator (rw e e₂) (rw e e₃) (rw e e₄) in-capitals

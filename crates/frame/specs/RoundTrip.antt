@@ -1,11 +1,12 @@
--- What writing and strictly reading a frame promise of each other (demand 2): the round trips, and that each reader refuses exactly the
--- frames that its matching writer never makes.
+-- What writing and strictly reading a frame promise of each other (demand 2; 02, L4): the round trips, and that each reader refuses exactly
+-- the frames that its matching writer never makes.
 use Prim.Native.Nat.{ℕ, _<_, _%_, _^_}
 use mathlib.Core.Path.{_≡_}
 use mathlib.Core.Logic.{_↔_}
 use mathlib.Core.List.{List}
 use lib.ListN.{length, getD}
 use Rattle.refusal.specs.Refusals.{noWord}
+use Rattle.message.specs.Character.{capitalForm}
 use Rattle.message.specs.Answer.{wordNumbers}
 use Rattle.message.specs.RoundTrip.{WordRefused, MessageRefused}
 use Rattle.message.specs.declared.MessageAnswer.{MessageAnswer}
@@ -65,9 +66,9 @@ ReadsAsMessage frame callsign locator power =
     (c l : List ℕ) → length c ≡ 6 → length l ≡ 4
     → (messageRead frame c l ≡ MessageAnswer.Power power) × ((callsignAfterRead frame c l ≡ callsign) × (locatorAfterRead frame c l ≡ locator))
 
--- What was written reads back.
+-- What was written reads back as its capital form.
 abbrev pub MessageReadsBack : WriteAnswer → List ℕ → List ℕ → ℕ → List ℕ → Type 0
-MessageReadsBack WriteAnswer.Done callsign locator power frame = ReadsAsMessage frame callsign locator power
+MessageReadsBack WriteAnswer.Done callsign locator power frame = ReadsAsMessage frame (capitalForm callsign) (capitalForm locator) power
 MessageReadsBack (WriteAnswer.Refused f) callsign locator power frame = Unit
 
 -- Writing from a message makes this frame, over any lent frame of 162 bytes.

@@ -4,7 +4,9 @@ mod sync;
 mod writing;
 
 ghost use mathlib.Core.Path.{_≡_};
+ghost use Rattle.message.specs.Character.{capitalForm};
 ghost use Rattle.message.specs.Answer.{wordNumbers, messageNumbers};
+ghost use Rattle.message.specs.RoundTrip.{WrittenInCapitals};
 ghost use Rattle.frame.specs.Answer.{wordWritten, messageWritten, frameAfterWord, frameAfterMessage, wordRead, refusalOf, messageRead, callsignAfterRead, locatorAfterRead, writeNumbers};
 ghost use Rattle.frame.specs.RoundTrip.{WordReadsBack, WordWritesBack, WordRefusedExactly, NoWordRefused, MessageReadsBack, MessageWritesBack, MessageRefusedExactly};
 use message::MessageAnswer;
@@ -44,11 +46,13 @@ pub fn write_word(word: u64, frame: &mut [u8]) -> WriteAnswer
     WriteAnswer::Done
 }
 
-// Writes the frame of a message.
+// Writes the frame of a message, the same as that of its capital form.
 pub fn write_message(callsign: &[u8], locator: &[u8], power: u32, frame: &mut [u8]) -> WriteAnswer
     ensures answer { λ r. ⌜ r ≡ messageWritten (now (callsign .entry)) (now (locator .entry)) power (now (frame .entry)) ⌝ }
     ensures numbers { λ r. ⌜ writeNumbers r ≡ writeNumbers (messageWritten (now (callsign .entry)) (now (locator .entry)) power (now (frame .entry))) ⌝ }
     ensures frame_after { λ _. ⌜ now (frame .exit) ≡ frameAfterMessage (now (callsign .entry)) (now (locator .entry)) power (now (frame .entry)) ⌝ }
+    ensures as_capitals { λ r. ⌜ r ≡ messageWritten (capitalForm (now (callsign .entry))) (capitalForm (now (locator .entry))) power (now (frame .entry)) ⌝ }
+    ensures frame_as_capitals { λ _. ⌜ now (frame .exit) ≡ frameAfterMessage (capitalForm (now (callsign .entry))) (capitalForm (now (locator .entry))) power (now (frame .entry)) ⌝ }
     ensures reads_back { λ r. ⌜ MessageReadsBack r (now (callsign .entry)) (now (locator .entry)) power (now (frame .exit)) ⌝ }
 {
     if frame.len() != 162 {
@@ -117,6 +121,7 @@ pub fn read_message(frame: &[u8], callsign: &mut [u8], locator: &mut [u8]) -> Me
     ensures callsign_after { λ _. ⌜ now (callsign .exit) ≡ callsignAfterRead (now (frame .entry)) (now (callsign .entry)) (now (locator .entry)) ⌝ }
     ensures locator_after { λ _. ⌜ now (locator .exit) ≡ locatorAfterRead (now (frame .entry)) (now (callsign .entry)) (now (locator .entry)) ⌝ }
     ensures writes_back { λ r. ⌜ MessageWritesBack r (now (frame .entry)) (now (callsign .exit)) (now (locator .exit)) ⌝ }
+    ensures in_capitals { λ r. ⌜ WrittenInCapitals r (now (callsign .exit)) (now (locator .exit)) ⌝ }
     ensures refuses_exactly { λ r. ⌜ MessageRefusedExactly r (now (frame .entry)) (now (callsign .entry)) (now (locator .entry)) ⌝ }
 {
     let answer = read_word(frame);

@@ -1,9 +1,9 @@
--- Laws of characters: a value by the byte's class and back, legal characters, and digits and characters inverse to each other.
+-- Laws of characters: capitals, a value by the byte's class and back, legal characters, and digits and characters inverse to each other.
 use mathlib.Core.Path.{_≡_, refl, sym, ap, _∙_, subst}
 use Prim.Native.Nat.{ℕ, zero, suc, _+_, _-_, _≤_, _<_}
 use native.Mathlib.Nat.{add-zero, add-sub-of-le, add-sub-cancel-left}
 use native.Mathlib.Omega.{arith}
-use mathlib.Core.Bool.{true, cond}
+use mathlib.Core.Bool.{Bool, true, false, cond}
 use mathlib.Core.List.{List, [], _∷_, _++_}
 use lib.Dec.{eqb, leb, ltb}
 use lib.ListN.{length, getD, List·getD-eq-default}
@@ -11,37 +11,92 @@ use borrow.Author.Tests.{le-leb, lt-ltb, le-ltb, leb-true, ltb-true, eqb-true, n
 use Rattle.radix.specs.Numeral.{Digits}
 use Rattle.basics.proofs.Tables.{every-at, below-at}
 use Rattle.basics.proofs.Choice.{between-true, between-below, between-above, both-true, below-or-not, equal-or-not}
-use Rattle.message.specs.Character.{value, character, CharacterSet, callsignSets, locatorSets, setAt, legalAt, digitAt, characterAt, overPlaces, digitsFrom, charactersFrom, DigitsAt}
+use Rattle.message.specs.Character.{capital, capitalForm, value, character, CharacterSet, callsignSets, locatorSets, setAt, legalAt, digitAt, characterAt, overPlaces, digitsFrom, charactersFrom, DigitsAt}
 use Rattle.basics.proofs.ListLaws.{AllPass}
 
--- ---- A byte's class
+-- ---- Capitals
 
-pub value-digit : {b : ℕ} → 48 ≤ b → b ≤ 57 → value b ≡ b - 48
-unfolding value
-value-digit {b} h k = rw (between-true 48 57 b h k)
+pub capital-small : {b : ℕ} → 97 ≤ b → b ≤ 122 → capital b ≡ b - 32
+unfolding capital
+capital-small {b} h k = rw (between-true 97 122 b h k)
 
-pub value-letter : {b : ℕ} → 65 ≤ b → b ≤ 90 → value b ≡ b - 55
-unfolding value
-value-letter {b} h k = rw (between-above 48 57 b (omega arith) (omega arith), between-true 65 90 b h k)
+pub capital-before : {b : ℕ} → b < 97 → capital b ≡ b
+unfolding capital
+capital-before {b} h = rw (between-below 97 122 b h)
 
-pub value-space : value 32 ≡ 36
-unfolding value
-value-space = refl
+pub capital-after : {b : ℕ} → 123 ≤ b → capital b ≡ b
+unfolding capital
+capital-after {b} h = rw (between-above 97 122 b (omega arith) (omega arith))
 
--- A byte between the classes is no character.
-pub value-below-digits : {b : ℕ} → b < 48 → (b ≡ 32 → ⊥) → value b ≡ 37
-unfolding value
-value-below-digits {b} h k = rw (between-below 48 57 b h, between-below 65 90 b (omega arith), ne-eqb b 32 k)
+-- A capital is its own: no small letter is one.
+pub capital-capital : (b : ℕ) → capital (capital b) ≡ capital b
+capital-capital b =
+    below-or-not b 97 (λ h. ap capital (capital-before h))
+    (λ h. below-or-not b 123 (λ k. capital-before (omega (arith, capital-small h (omega arith)))) (λ k. ap capital (capital-after k)))
 
-pub value-below-letters : {b : ℕ} → 58 ≤ b → b < 65 → value b ≡ 37
-unfolding value
-value-below-letters {b} h k =
-    rw (between-above 48 57 b (omega arith) (omega arith), between-below 65 90 b k, ne-eqb b 32 (λ e. omega arith))
+-- Where the capital is no letter, the byte is none.
+pub capital-no-letter : (b : ℕ) → capital b < 65 → b ≡ capital b
+capital-no-letter b c =
+    below-or-not b 97 (λ h. sym (capital-before h))
+    (λ h. below-or-not b 123 (λ k. absurd (omega (arith, capital-small h (omega arith)))) (λ k. sym (capital-after k)))
 
-pub value-above-letters : {b : ℕ} → 91 ≤ b → value b ≡ 37
+capital-most : (b : ℕ) → capital b ≤ b
+capital-most b =
+    below-or-not b 97 (λ h. omega (arith, capital-before h))
+    (λ h. below-or-not b 123 (λ k. omega (arith, capital-small h (omega arith))) (λ k. omega (arith, capital-after k)))
+
+-- A test that no letter passes, nor a byte after the letters, says the same of a byte and of its capital.
+pub capital-test : (test : ℕ → Bool) → ((b : ℕ) → 65 ≤ b → test b ≡ false) → (b : ℕ) → test (capital b) ≡ test b
+capital-test test none b =
+    below-or-not (capital b) 65 (λ h. ap test (sym (capital-no-letter b h)))
+    (λ h. none (capital b) h ∙ sym (none b (omega (arith, capital-most b))))
+
+pub capital-space : (b : ℕ) → eqb (capital b) 32 ≡ eqb b 32
+capital-space b = capital-test (λ (c : ℕ). eqb c 32) (λ c h. ne-eqb c 32 (λ e. omega arith)) b
+
+-- ---- A byte's class, which is that of its capital
+
+module _ (b : ℕ) where
+  pub value-digit : 48 ≤ capital b → capital b ≤ 57 → value b ≡ capital b - 48
+  unfolding value
+  value-digit h k = rw (between-true 48 57 (capital b) h k)
+
+  pub value-letter : 65 ≤ capital b → capital b ≤ 90 → value b ≡ capital b - 55
+  unfolding value
+  value-letter h k = rw (between-above 48 57 (capital b) (omega arith) (omega arith), between-true 65 90 (capital b) h k)
+
+  pub value-space : capital b ≡ 32 → value b ≡ 36
+  unfolding value
+  value-space e = rw e
+
+  -- A byte between the classes is no character.
+  pub value-below-digits : capital b < 48 → (capital b ≡ 32 → ⊥) → value b ≡ 37
+  unfolding value
+  value-below-digits h k =
+      rw (between-below 48 57 (capital b) h, between-below 65 90 (capital b) (omega arith), ne-eqb (capital b) 32 k)
+
+  pub value-below-letters : 58 ≤ capital b → capital b < 65 → value b ≡ 37
+  unfolding value
+  value-below-letters h k =
+      rw (
+        between-above 48 57 (capital b) (omega arith) (omega arith),
+        between-below 65 90 (capital b) k,
+        ne-eqb (capital b) 32 (λ e. omega arith),
+      )
+
+  pub value-above-letters : 91 ≤ capital b → value b ≡ 37
+  unfolding value
+  value-above-letters h =
+      rw (
+        between-above 48 57 (capital b) (omega arith) (omega arith),
+        between-above 65 90 (capital b) (omega arith) (omega arith),
+        ne-eqb (capital b) 32 (λ e. omega arith),
+      )
+
+-- A small letter has the value of its capital, and no other byte another value than before.
+pub value-capital : (b : ℕ) → value (capital b) ≡ value b
 unfolding value
-value-above-letters {b} h =
-    rw (between-above 48 57 b (omega arith) (omega arith), between-above 65 90 b (omega arith) (omega arith), ne-eqb b 32 (λ e. omega arith))
+value-capital b = rw (capital-capital b)
 
 pub character-digit : {v : ℕ} → v < 10 → character v ≡ v + 48
 unfolding character
@@ -57,21 +112,30 @@ character-space {v} h = rw (le-ltb v 10 (omega arith), le-ltb v 36 h)
 
 -- ---- A value and its character
 
+-- Every character of a value is a capital, a digit or the space.
+pub capital-character : (v : ℕ) → capital (character v) ≡ character v
+capital-character v =
+    below-or-not v 10 (λ d. capital-before (omega (arith, character-digit d)))
+    (λ d. below-or-not v 36 (λ l. capital-before (omega (arith, character-letter d l))) (λ l. capital-before (omega (arith, character-space l))))
+
 value-character : {v : ℕ} → v < 37 → value (character v) ≡ v
 value-character {v} h =
-    below-or-not v 10 (λ d. rw (character-digit d) (value-digit (omega arith) (omega arith) ∙ omega arith))
-    (λ d. below-or-not v 36 (λ l. rw (character-letter d l) (value-letter (omega arith) (omega arith) ∙ omega arith))
-    (λ l. rw (character-space l) (value-space ∙ omega arith)))
+    let same = capital-character v in
+    below-or-not v 10
+    (λ d. let c = character-digit d in value-digit (character v) (omega arith) (omega arith) ∙ omega arith)
+    (λ d. below-or-not v 36
+    (λ l. let c = character-letter d l in value-letter (character v) (omega arith) (omega arith) ∙ omega arith)
+    (λ l. let c = character-space l in value-space (character v) (omega arith) ∙ omega arith))
 
-pub character-value : (b : ℕ) → value b < 37 → character (value b) ≡ b
+pub character-value : (b : ℕ) → value b < 37 → character (value b) ≡ capital b
 character-value b h =
-    below-or-not b 48
-    (λ d. equal-or-not b 32 (λ e. rw (e, value-space) (character-space (omega arith)))
-    (λ n. absurd (omega (arith, value-below-digits d n))))
-    (λ d. below-or-not b 58 (λ e. rw (value-digit d (omega arith)) (character-digit (omega arith) ∙ omega arith))
-    (λ e. below-or-not b 65 (λ l. absurd (omega (arith, value-below-letters e l)))
-    (λ l. below-or-not b 91 (λ u. rw (value-letter l (omega arith)) (character-letter (omega arith) (omega arith) ∙ omega arith))
-    (λ u. absurd (omega (arith, value-above-letters u))))))
+    below-or-not (capital b) 48
+    (λ d. equal-or-not (capital b) 32 (λ e. rw (value-space b e) (character-space (omega arith) ∙ sym e))
+    (λ n. absurd (omega (arith, value-below-digits b d n))))
+    (λ d. below-or-not (capital b) 58 (λ e. rw (value-digit b d (omega arith)) (character-digit (omega arith) ∙ omega arith))
+    (λ e. below-or-not (capital b) 65 (λ l. absurd (omega (arith, value-below-letters b e l)))
+    (λ l. below-or-not (capital b) 91 (λ u. rw (value-letter b l (omega arith)) (character-letter (omega arith) (omega arith) ∙ omega arith))
+    (λ u. absurd (omega (arith, value-above-letters b u))))))
 
 -- ---- The sets
 
@@ -167,7 +231,7 @@ digits-of-legal place [] h = tt
 digits-of-legal place (b ∷ bs) h =
     (omega (arith, legal-lowest place b (h .0), legal-end place b (h .0)), digits-of-legal (suc place) bs (h .1))
 
-pub characters-of-digits : (place : ℕ) (bs : List ℕ) → AllLegal place bs → charactersFrom place (digitsFrom place bs) ≡ bs
+pub characters-of-digits : (place : ℕ) (bs : List ℕ) → AllLegal place bs → charactersFrom place (digitsFrom place bs) ≡ capitalForm bs
 unfolding AllPass digitsFrom charactersFrom overPlaces digitAt characterAt
 characters-of-digits place [] h = refl
 characters-of-digits place (b ∷ bs) h =

@@ -7,9 +7,10 @@ use mathlib.Core.Bool.{true}
 use mathlib.Core.List.{List}
 use lib.ListN.{length}
 use Rattle.refusal.specs.declared.Refusal.{Refusal}
+use Rattle.message.specs.Character.{capitalForm}
 use Rattle.message.specs.Word.{callsignNumber, locatorNumber, lowerNumber, wordFrom, wordOf, callsignPart, locatorPart, powerPart, callsignWithNumber, locatorWithNumber, callsignOf, locatorOf}
 use Rattle.message.specs.Answer.{rightLengths, messagePacked, wordMessage, wordUnpacked, contentAfter, callsignAfterUnpack, locatorAfterUnpack, messageNumbers}
-use Rattle.message.specs.RoundTrip.{UnpacksAs, PacksBack, MessageRefused, NeverPacked, UnpackRefusedExactly}
+use Rattle.message.specs.RoundTrip.{UnpacksAs, PacksBack, WrittenInCapitals, MessageRefused, NeverPacked, UnpackRefusedExactly}
 use Rattle.message.specs.declared.WordAnswer.{WordAnswer}
 use Rattle.message.specs.declared.MessageAnswer.{MessageAnswer}
 use Rattle.power.proofs.Laws.{legal-power-end}
@@ -18,9 +19,9 @@ use Rattle.message.proofs.AnswerLaws.{right-lengths, checked-legal, pac
 
 -- ---- The round trips
 
--- A packed message reads back.
+-- A packed message reads back as its capital form.
 pub unpack-pack : (callsign locator : List ℕ) (power word : ℕ) → messagePacked callsign locator power ≡ WordAnswer.Word word
-    → UnpacksAs word callsign locator power
+    → UnpacksAs word (capitalForm callsign) (capitalForm locator) power
 unfolding wordOf callsignOf locatorOf
 unpack-pack callsign locator power word e =
     let made = legal-of-packed callsign locator power word e in
@@ -56,6 +57,13 @@ pack-unpack word power e =
     (r .power-legal))
     ∙ ap WordAnswer.Word (rw (callsignNumber-callsignWithNumber n (r .callsign), locatorNumber-locatorWithNumber m1 (r .locator), r .is-power) (word-of-parts word (r .bits)))
 
+-- So what is read is in capitals: it packs to its word, which reads as its capital form.
+pub read-in-capitals : (word power : ℕ) → wordMessage word ≡ MessageAnswer.Power power
+    → (capitalForm (callsignOf word) ≡ callsignOf word) × (capitalForm (locatorOf word) ≡ locatorOf word)
+read-in-capitals word power e =
+    let back = unpack-pack (callsignOf word) (locatorOf word) power word (pack-unpack word power e) in
+    (sym (back .its-callsign), sym (back .its-locator))
+
 -- The reader refuses exactly the words that the writer never makes.
 pub refuses-exactly : (word : ℕ) → MessageRefused (wordMessage word) ↔ NeverPacked word
 refuses-exactly word = (λ refused callsign locator power made. never refused (unpack-pack callsign locator power word made .its-power), λ never-made. exact (wordMessage word) refl never-made)
@@ -76,7 +84,8 @@ module _ (callsign locator : List ℕ) (word : ℕ) where
       × ((messageNumbers answer ≡ messageNumbers (wordUnpacked callsign locator word))
       × ((its-callsign ≡ callsignAfterUnpack callsign locator word)
       × ((its-locator ≡ locatorAfterUnpack callsign locator word)
-      × (PacksBack answer word its-callsign its-locator × UnpackRefusedExactly answer word callsign locator))))
+      × (PacksBack answer word its-callsign its-locator
+      × (WrittenInCapitals answer its-callsign its-locator × UnpackRefusedExactly answer word callsign locator)))))
 
   -- With the lengths right the answer is the word's.
   exactly : UnpackRefusedExactly (wordUnpacked callsign locator word) word callsign locator
@@ -84,11 +93,11 @@ module _ (callsign locator : List ℕ) (word : ℕ) where
 
   pub promised-refused : (f : Refusal) → wordUnpacked callsign locator word ≡ MessageAnswer.Refused f → Promised (MessageAnswer.Refused f) callsign locator
   unfolding callsignAfterUnpack locatorAfterUnpack contentAfter
-  promised-refused f e = (sym e, (ap messageNumbers (sym e), (rw e, (rw e, (tt, rw e at exactly)))))
+  promised-refused f e = (sym e, (ap messageNumbers (sym e), (rw e, (rw e, (tt, (tt, rw e at exactly))))))
 
   pub promised-power : (power : ℕ) → rightLengths (length callsign) (length locator) ≡ true → wordMessage word ≡ MessageAnswer.Power power
       → Promised (MessageAnswer.Power power) (callsignOf word) (locatorOf word)
   unfolding callsignAfterUnpack locatorAfterUnpack contentAfter
   promised-power power right read =
       let e = unpacked-read callsign locator word right ∙ read in
-      (sym e, (ap messageNumbers (sym e), (rw e, (rw e, (pack-unpack word power read, rw e at exactly)))))
+      (sym e, (ap messageNumbers (sym e), (rw e, (rw e, (pack-unpack word power read, (read-in-capitals word power read, rw e at exactly))))))

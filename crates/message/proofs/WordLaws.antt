@@ -1,5 +1,5 @@
--- Laws of the word: the callsign's and the locator's numbers and their characters are inverse to each other, and the word's parts
--- are those that it was made from.
+-- Laws of the word: the callsign's and the locator's numbers and their characters, in capitals, are inverse to each other, and the word's
+-- parts are those that it was made from.
 use mathlib.Core.Path.{_≡_, refl, sym, _∙_}
 use Prim.Native.Nat.{ℕ, _+_, _-_, _^_, _≤_, _<_}
 use native.Mathlib.Omega.{arith}
@@ -9,7 +9,7 @@ use Rattle.basics.specs.Lists.{tabulate}
 use Rattle.basics.proofs.ListLaws.{by-places}
 use Rattle.radix.specs.Numeral.{Digits, Positive, count, numberFrom, numberOf, digitsOf}
 use Rattle.radix.proofs.Laws.{number-below, digits-in-range, digitsOf-numberOf, numberOf-digitsOf}
-use Rattle.message.specs.Character.{setAt, callsignSets, locatorSets, DigitsAt, digitsFrom}
+use Rattle.message.specs.Character.{capitalForm, setAt, callsignSets, locatorSets, DigitsAt, digitsFrom}
 use Rattle.message.specs.Word.{callsignRadices, callsignNumber, locatorNumberFrom, locatorNumber, lowerNumber, wordFrom, callsignPart, locatorPart, powerPart, locatorRadices, locatorValues, callsignWithNumber, locatorWithNumber}
 use Rattle.message.proofs.CharacterLaws.{AllLegal, sizesFrom, digits-of-legal, characters-of-digits, legal-of-digits, digits-of-characters, digits-in-sizes, digit-below, length-digitsFrom, length-charactersFrom}
 
@@ -33,7 +33,7 @@ unfolding callsignNumber
 callsignNumber-below callsign six legal =
     rw (← callsign-count) (number-below callsignRadices _ (callsign-digits callsign six legal))
 
-pub callsignWithNumber-callsignNumber : (callsign : List ℕ) → length callsign ≡ 6 → AllLegal 0 callsign → callsignWithNumber (callsignNumber callsign) ≡ callsign
+pub callsignWithNumber-callsignNumber : (callsign : List ℕ) → length callsign ≡ 6 → AllLegal 0 callsign → callsignWithNumber (callsignNumber callsign) ≡ capitalForm callsign
 unfolding callsignWithNumber callsignNumber
 callsignWithNumber-callsignNumber callsign six legal =
     rw (digitsOf-numberOf callsignRadices (digitsFrom 0 callsign) (callsign-digits callsign six legal)) (characters-of-digits 0 callsign legal)
@@ -123,7 +123,7 @@ locatorValues-locatorDigits vs v =
     let c : 9 - (9 - getD vs 2 0) ≡ getD vs 2 0 = omega (arith, v .c) in
     rw (a, c) (sym (v .all))
 
-pub locatorWithNumber-locatorNumber : (locator : List ℕ) → length locator ≡ 4 → AllLegal 6 locator → locatorWithNumber (locatorNumber locator) ≡ locator
+pub locatorWithNumber-locatorNumber : (locator : List ℕ) → length locator ≡ 4 → AllLegal 6 locator → locatorWithNumber (locatorNumber locator) ≡ capitalForm locator
 unfolding locatorWithNumber
 locatorWithNumber-locatorNumber locator four legal =
     let vs = digitsFrom 6 locator in

@@ -1,21 +1,32 @@
--- The characters of a message: their values, and the set of each of its ten places (01, 'Triple' and 'Word').
+-- The characters of a message: their capitals, their values, and the set of each of its ten places (01, 'Triple' and 'Word'; 02, L4).
 use Prim.Native.Nat.{ℕ, suc, _+_, _-_, _<_}
 use mathlib.Core.Bool.{Bool, cond, _&&_}
-use mathlib.Core.List.{List, [], _∷_, _++_}
+use mathlib.Core.List.{List, [], _∷_, _++_, map}
 use lib.Dec.{eqb, leb, ltb}
 use lib.ListN.{getD}
 use Rattle.basics.specs.Test.{between}
 use Rattle.basics.specs.Lists.{firstFailing}
 
+-- ---- Capitals
+
+-- "take a to z as their capitals": in ASCII, a-z are 97 to 122, each 32 after its capital. Any other byte is its own capital.
+unfoldable pub capital : ℕ → ℕ
+capital byte = cond (between 97 122 byte) (byte - 32) byte
+
+-- The "capital form" of a callsign or a locator
+abbrev pub capitalForm : List ℕ → List ℕ
+capitalForm bytes = map capital bytes
+
 -- ---- Values
 
--- "Digits count 0-9, letters 10-35, space 36." In ASCII, 0-9 are 48 to 57, A-Z 65 to 90, and the space is 32. A byte that is none of
--- these has the value 37, which is in no set.
+-- "Digits count 0-9, letters 10-35, space 36." The value of a character is that of its capital. In ASCII, 0-9 are 48 to 57, A-Z 65 to 90,
+-- and the space is 32. A byte that is none of these has the value 37, which is in no set.
 unfoldable pub value : ℕ → ℕ
 value byte =
-    cond (between 48 57 byte) (byte - 48)
-    (cond (between 65 90 byte) (byte - 55)
-    (cond (eqb byte 32) 36 37))
+    let c = capital byte in
+    cond (between 48 57 c) (c - 48)
+    (cond (between 65 90 c) (c - 55)
+    (cond (eqb c 32) 36 37))
 
 -- The character that has a value from 0 to 36: a digit, a capital letter or the space. Above 36 it is the space too.
 unfoldable pub character : ℕ → ℕ

@@ -1,10 +1,11 @@
--- What packing and unpacking promise of each other (demand 2): the round trips, and that the reader refuses exactly the words
--- that the writer never makes.
+-- What packing and unpacking promise of each other (demand 2; 02, L4): the round trips, over capital forms, that only capitals are
+-- written, and that the reader refuses exactly the words that the writer never makes.
 use Prim.Native.Nat.{ℕ, _^_, _<_}
 use mathlib.Core.Path.{_≡_}
 use mathlib.Core.Logic.{_↔_}
 use mathlib.Core.List.{List}
 use lib.ListN.{length}
+use Rattle.message.specs.Character.{capitalForm}
 use Rattle.message.specs.Answer.{messagePacked, wordMessage}
 use Rattle.message.specs.Word.{callsignOf, locatorOf}
 use Rattle.message.specs.declared.WordAnswer.{WordAnswer}
@@ -17,15 +18,21 @@ pub record UnpacksAs (word : ℕ) (callsign locator : List ℕ) (power : ℕ) : 
   pub its-callsign : callsignOf word ≡ callsign
   pub its-locator : locatorOf word ≡ locator
 
--- What was packed reads back: the answer's word, where it has one, reads as the message.
+-- What was packed reads back as its capital form: the answer's word, where it has one, reads as the message in capitals.
 abbrev pub UnpacksBack : WordAnswer → List ℕ → List ℕ → ℕ → Type 0
-UnpacksBack (WordAnswer.Word w) callsign locator power = UnpacksAs w callsign locator power
+UnpacksBack (WordAnswer.Word w) callsign locator power = UnpacksAs w (capitalForm callsign) (capitalForm locator) power
 UnpacksBack (WordAnswer.Refused f) callsign locator power = Unit
 
 -- What was read packs back: the callsign and locator with the answer's power, where it has one, have the word.
 abbrev pub PacksBack : MessageAnswer → ℕ → List ℕ → List ℕ → Type 0
 PacksBack (MessageAnswer.Power p) word callsign locator = messagePacked callsign locator p ≡ WordAnswer.Word word
 PacksBack (MessageAnswer.Refused f) word callsign locator = Unit
+
+-- "readers write capitals only": where the answer has a power, the callsign and the locator that were written are their own capital forms.
+-- So do the writers of telemetry, whose answers are of this kind too.
+abbrev pub WrittenInCapitals : MessageAnswer → List ℕ → List ℕ → Type 0
+WrittenInCapitals (MessageAnswer.Power p) callsign locator = (capitalForm callsign ≡ callsign) × (capitalForm locator ≡ locator)
+WrittenInCapitals (MessageAnswer.Refused f) callsign locator = Unit
 
 -- The answer is a refusal.
 abbrev pub WordRefused : WordAnswer → Type 0

@@ -1,17 +1,29 @@
-// Characters, their values, and the sets of the ten places of a message.
+// Characters, their capitals and values, and the sets of the ten places of a message.
 ghost use mathlib.Core.Path.{_≡_};
 ghost use Prim.Native.Nat.{_+_, _≤_, _<_};
 ghost use mathlib.Core.List.{_++_};
 ghost use lib.ListN.{length};
-ghost use Rattle.message.specs.Character.{value, character, setAt, legalAt, firstBad, digitAt, digitsFrom, charactersFrom, DigitsAt};
+ghost use Rattle.message.specs.Character.{capital, value, character, setAt, legalAt, firstBad, digitAt, digitsFrom, charactersFrom, DigitsAt};
 
-// Digits count 0 to 9, capital letters 10 to 35, the space 36; any other byte 37.
+// The capital of a small letter; any other byte is its own.
+pub fn capital_of(byte: u8) -> u8
+    ensures { λ r. ⌜ r ≡ capital byte ⌝ }
+{
+    match byte {
+        b'a'..=b'z' => byte - (b'a' - b'A'),
+        _ => byte,
+    }
+}
+
+// Digits count 0 to 9, letters 10 to 35, small ones as their capitals, the space 36; any other byte
+// 37.
 fn value_of(byte: u8) -> u64
     ensures { λ r. ⌜ r ≡ value byte ⌝ }
 {
-    match byte {
-        b'0'..=b'9' => (byte - b'0') as u64,
-        b'A'..=b'Z' => (byte - b'A') as u64 + 10,
+    let capital = capital_of(byte);
+    match capital {
+        b'0'..=b'9' => (capital - b'0') as u64,
+        b'A'..=b'Z' => (capital - b'A') as u64 + 10,
         b' ' => 36,
         _ => 37,
     }

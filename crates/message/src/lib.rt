@@ -3,8 +3,9 @@ pub mod character;
 mod word;
 
 ghost use mathlib.Core.Path.{_≡_};
+ghost use Rattle.message.specs.Character.{capitalForm};
 ghost use Rattle.message.specs.Answer.{rightLengths, messageChecked, messagePacked, wordUnpacked, callsignAfterUnpack, locatorAfterUnpack, checkNumbers, wordNumbers, messageNumbers};
-ghost use Rattle.message.specs.RoundTrip.{UnpacksBack, PacksBack, UnpackRefusedExactly};
+ghost use Rattle.message.specs.RoundTrip.{UnpacksBack, PacksBack, WrittenInCapitals, UnpackRefusedExactly};
 use refusal::BAD_CHARACTER;
 use refusal::BAD_POWER;
 use refusal::Refusal;
@@ -36,10 +37,12 @@ pub fn right_lengths(callsign: usize, locator: usize) -> bool
     callsign == 6 && locator == 4
 }
 
-// Whether a message is legal: its lengths, its characters and its power.
+// Whether a message is legal: its lengths, its characters and its power. Small letters count as their
+// capitals.
 pub fn check(callsign: &[u8], locator: &[u8], power: u32) -> CheckAnswer
     ensures answer { λ r. ⌜ r ≡ messageChecked (now (callsign .entry)) (now (locator .entry)) power ⌝ }
     ensures numbers { λ r. ⌜ checkNumbers r ≡ checkNumbers (messageChecked (now (callsign .entry)) (now (locator .entry)) power) ⌝ }
+    ensures as_capitals { λ r. ⌜ r ≡ messageChecked (capitalForm (now (callsign .entry))) (capitalForm (now (locator .entry))) power ⌝ }
 {
     if !right_lengths(callsign.len(), locator.len()) {
         return CheckAnswer::Refused(Refusal {
@@ -63,10 +66,11 @@ pub fn check(callsign: &[u8], locator: &[u8], power: u32) -> CheckAnswer
     CheckAnswer::Legal
 }
 
-// The word of a message.
+// The word of a message, the same as that of its capital form.
 pub fn pack(callsign: &[u8], locator: &[u8], power: u32) -> WordAnswer
     ensures answer { λ r. ⌜ r ≡ messagePacked (now (callsign .entry)) (now (locator .entry)) power ⌝ }
     ensures numbers { λ r. ⌜ wordNumbers r ≡ wordNumbers (messagePacked (now (callsign .entry)) (now (locator .entry)) power) ⌝ }
+    ensures as_capitals { λ r. ⌜ r ≡ messagePacked (capitalForm (now (callsign .entry))) (capitalForm (now (locator .entry))) power ⌝ }
     ensures unpacks_back { λ r. ⌜ UnpacksBack r (now (callsign .entry)) (now (locator .entry)) power ⌝ }
 {
     let checked = check(callsign, locator, power);
@@ -85,6 +89,7 @@ pub fn unpack(word: u64, callsign: &mut [u8], locator: &mut [u8]) -> MessageAnsw
     ensures callsign_after { λ _. ⌜ now (callsign .exit) ≡ callsignAfterUnpack (now (callsign .entry)) (now (locator .entry)) word ⌝ }
     ensures locator_after { λ _. ⌜ now (locator .exit) ≡ locatorAfterUnpack (now (callsign .entry)) (now (locator .entry)) word ⌝ }
     ensures packs_back { λ r. ⌜ PacksBack r word (now (callsign .exit)) (now (locator .exit)) ⌝ }
+    ensures in_capitals { λ r. ⌜ WrittenInCapitals r (now (callsign .exit)) (now (locator .exit)) ⌝ }
     ensures refuses_exactly { λ r. ⌜ UnpackRefusedExactly r word (now (callsign .entry)) (now (locator .entry)) ⌝ }
 {
     if !right_lengths(callsign.len(), locator.len()) {

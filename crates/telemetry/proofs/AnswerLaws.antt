@@ -1,5 +1,5 @@
 -- The cases of the definitions of the answers, each by what holds there, and what an answer that is no refusal says of its input.
-use mathlib.Core.Path.{_≡_, refl, sym, _∙_}
+use mathlib.Core.Path.{_≡_, refl, sym, ap, _∙_}
 use Prim.Native.Nat.{ℕ, _%_, _≤_, _<_}
 use native.Mathlib.Omega.{arith}
 use mathlib.Core.Bool.{true, false, not}
@@ -10,13 +10,14 @@ use borrow.Author.Tests.{not-false, le-leb, lt-leb, leb-false, lt-ltb, le-ltb, l
 use Rattle.basics.proofs.Choice.{cond-passed, cond-both}
 use Rattle.refusal.specs.declared.Refusal.{Refusal}
 use Rattle.refusal.specs.Refusals.{refusal, wrongLength, extendedTelemetry, badPositionNumber, badSensorNumber, outOfRange}
+use Rattle.message.specs.Character.{capitalForm}
 use Rattle.message.specs.Answer.{rightLengths, wordUnpacked, contentAfter, callsignAfterUnpack, locatorAfterUnpack, messageNumbers}
 use Rattle.message.specs.declared.MessageAnswer.{MessageAnswer}
 use Rattle.message.proofs.AnswerLaws.{refused-no-power, unpacked-read}
 use Rattle.u4b.specs.Answer.{payloadMessage, payloadRead}
 use Rattle.u4b.specs.declared.Payload.{Payload}
 use Rattle.u4b.specs.declared.PayloadAnswer.{PayloadAnswer}
-use Rattle.u4b.proofs.AnswerLaws.{Answered, message-answered, refused-nonzero}
+use Rattle.u4b.proofs.AnswerLaws.{Answered, message-answered, refused-nonzero, read-capitals}
 use Rattle.telemetry.specs.Ranges.{firstOutOfRange}
 use Rattle.telemetry.specs.Payload.{basicBit, payloadFrom, readingOf}
 use Rattle.telemetry.specs.Answer.{basicFirst, measuredMessage, telemetryWritten, payloadTelemetry, basicTelemetry, telemetryIfPayload, telemetryRead, telemetryIfMessage, wordTelemetry, telemetryNumbers}
@@ -92,6 +93,11 @@ module _ (callsign locator : List ℕ) (power : ℕ) where
       → telemetryRead callsign locator power ≡ basicTelemetry p
   unfolding telemetryRead telemetryIfPayload
   read-payload p e = rw e
+
+  -- Small letters count as their capitals.
+  pub telemetry-capitals : telemetryRead (capitalForm callsign) (capitalForm locator) power ≡ telemetryRead callsign locator power
+  unfolding telemetryRead
+  telemetry-capitals = ap telemetryIfPayload (read-capitals basicFirst callsign locator power)
 
 module _ (callsign locator : List ℕ) (word : ℕ) (right : rightLengths (length callsign) (length locator) ≡ true) where
   pub word-refused : (f : Refusal) → wordUnpacked callsign locator word ≡ MessageAnswer.Refused f → wordTelemetry word ≡ TelemetryAnswer.Refused f

@@ -1,13 +1,16 @@
 -- The round trips between what is measured and its message, how far what reads back is from what was measured, and that the reader refuses
--- exactly the messages that the writer never makes.
+-- exactly the messages whose capital form the writer never makes.
 use mathlib.Core.Path.{_≡_, refl, sym, ap, _∙_}
 use mathlib.Core.Logic.{_↔_}
 use Prim.Native.Nat.{ℕ, _≤_}
 use native.Mathlib.Omega.{arith}
 use mathlib.Core.List.{List}
+use Rattle.message.specs.Character.{capitalForm}
 use Rattle.message.specs.Word.{callsignOf, locatorOf}
 use Rattle.message.specs.Answer.{wordMessage, contentAfter, messageNumbers}
+use Rattle.message.specs.RoundTrip.{WrittenInCapitals}
 use Rattle.message.specs.declared.MessageAnswer.{MessageAnswer}
+use Rattle.message.proofs.CapitalLaws.{packed-capitals}
 use Rattle.message.proofs.RoundTripLaws.{unpack-pack, pack-unpack}
 use Rattle.u4b.specs.declared.channel.FirstCharacters.{FirstCharacters}
 use Rattle.u4b.specs.declared.PayloadAnswer.{PayloadAnswer}
@@ -22,7 +25,7 @@ use Rattle.telemetry.specs.declared.TelemetryAnswer.{TelemetryAnswer}
 use Rattle.telemetry.proofs.RangeLaws.{InRange, in-range, none-out-of-range}
 use Rattle.telemetry.proofs.CodeLaws.{altitude-steps, temperature-steps, voltage-steps, speed-steps}
 use Rattle.telemetry.proofs.NumberLaws.{position-below, sensor-below, lowest-digit, readingOf-payload, again-in-range, payload-again}
-use Rattle.telemetry.proofs.AnswerLaws.{measured-payload, range-of-written, measured-of-written, payload-reading, basic-numbers, read-payload, refused-no-reading, basic}
+use Rattle.telemetry.proofs.AnswerLaws.{measured-payload, range-of-written, measured-of-written, payload-reading, basic-numbers, read-payload, telemetry-capitals, refused-no-reading, basic}
 
 -- ---- What was written reads back
 
@@ -59,10 +62,16 @@ pub read-within-steps : (m : Measured) (power : ℕ) → measuredMessage m ≡ M
 read-within-steps m power e =
     rw (read-write m power e) (quantised-within-steps m (in-range basicFirst m (range-of-written m power e .0)))
 
--- ---- What was read writes back
+-- What is written is in capitals.
+pub written-capitals : (m : Measured) (power : ℕ) → measuredMessage m ≡ MessageAnswer.Power power
+    → (capitalForm (measuredCallsign m) ≡ measuredCallsign m) × (capitalForm (measuredLocator m) ≡ measuredLocator m)
+unfolding measuredCallsign measuredLocator
+written-capitals m power e = U4b.written-capitals basicFirst (payloadFrom basicBit m) power (range-of-written m power e .1)
+
+-- ---- What was read writes the capital form back
 
 pub write-read : (callsign locator : List ℕ) (power : ℕ) (r : Reading) → telemetryRead callsign locator power ≡ TelemetryAnswer.Telemetry r
-    → MeasuredWritesAs (inTenths r) callsign locator power
+    → MeasuredWritesAs (inTenths r) (capitalForm callsign) (capitalForm locator) power
 unfolding measuredCallsign measuredLocator
 write-read callsign locator power r e =
     let (p, (payload, (lowest, holds))) = basic callsign locator power r e in
@@ -76,15 +85,17 @@ write-read callsign locator power r e =
       its-locator = rw again (w .its-locator);
     })
 
--- ---- The reader refuses exactly what the writer never makes
+-- ---- The reader refuses exactly what in capitals the writer never makes
 
-pub refuses-exactly : (callsign locator : List ℕ) (power : ℕ) → TelemetryRefused (telemetryRead callsign locator power) ↔ NeverFromMeasured callsign locator power
+pub refuses-exactly : (callsign locator : List ℕ) (power : ℕ) → TelemetryRefusedExactly (telemetryRead callsign locator power) callsign locator power
 refuses-exactly callsign locator power = (λ refused m w. never refused m w, λ never-written. exact (telemetryRead callsign locator power) refl never-written)
   where
-    never : TelemetryRefused (telemetryRead callsign locator power) → (m : Measured) → MeasuredWritesAs m callsign locator power → ⊥
-    never refused m w = rw (sym (w .its-callsign), sym (w .its-locator), read-write m power (w .its-power)) at refused
+    never : TelemetryRefused (telemetryRead callsign locator power) → NeverFromMeasured (capitalForm callsign) (capitalForm locator) power
+    never refused m w =
+        rw (← telemetry-capitals callsign locator power, ← w .its-callsign, ← w .its-locator, read-write m power (w .its-power)) at refused
 
-    exact : (answer : TelemetryAnswer) → telemetryRead callsign locator power ≡ answer → NeverFromMeasured callsign locator power → TelemetryRefused answer
+    exact : (answer : TelemetryAnswer) → telemetryRead callsign locator power ≡ answer
+        → NeverFromMeasured (capitalForm callsign) (capitalForm locator) power → TelemetryRefused answer
     exact (TelemetryAnswer.Telemetry r) e never-written = never-written (inTenths r) (write-read callsign locator power r e)
     exact (TelemetryAnswer.Refused f) e never-written = tt
 
@@ -95,7 +106,8 @@ read-sent : (m : Measured) (word : ℕ) → SentAs m word → wordTelemetry word
 unfolding wordTelemetry telemetryIfMessage
 read-sent m word s =
     let back = unpack-pack (measuredCallsign m) (measuredLocator m) (s .power) word (s .its-word) in
-    rw (back .its-power, back .its-callsign, back .its-locator) (read-write m (s .power) (s .its-power))
+    rw (back .its-power, back .its-callsign, back .its-locator)
+    (telemetry-capitals (measuredCallsign m) (measuredLocator m) (s .power) ∙ read-write m (s .power) (s .its-power))
 
 -- What was read of a word is sent as that word.
 sent-read : (word : ℕ) (answer : TelemetryAnswer) → wordTelemetry word ≡ answer → WordSentBack answer word
@@ -106,7 +118,8 @@ sent-read word (TelemetryAnswer.Telemetry r) e = go (wordMessage word) refl e
     go : (answer : MessageAnswer) → wordMessage word ≡ answer → telemetryIfMessage answer word ≡ TelemetryAnswer.Telemetry r → SentAs (inTenths r) word
     go (MessageAnswer.Power p) its-power read =
         let w = write-read (callsignOf word) (locatorOf word) p r read in
-        record { power = p; its-power = w .its-power; its-word = rw (w .its-callsign, w .its-locator) (pack-unpack word p its-power) }
+        let made = packed-capitals (callsignOf word) (locatorOf word) p ∙ pack-unpack word p its-power in
+        record { power = p; its-power = w .its-power; its-word = rw (w .its-callsign, w .its-locator) made }
     go (MessageAnswer.Refused f) its-power read = absurd (refused-no-reading f r read)
 
 word-refused-exactly : (word : ℕ) → TelemetryRefused (wordTelemetry word) ↔ NeverSent word
@@ -125,7 +138,8 @@ module _ (callsign locator : List ℕ) (m : Measured) where
       × ((messageNumbers answer ≡ messageNumbers (telemetryWritten callsign locator m))
       × ((its-callsign ≡ callsignAfterTelemetry callsign locator m)
       × ((its-locator ≡ locatorAfterTelemetry callsign locator m)
-      × (TelemetryReadsBack answer m its-callsign its-locator × TelemetryWithinSteps answer m its-callsign its-locator))))
+      × (TelemetryReadsBack answer m its-callsign its-locator
+      × (TelemetryWithinSteps answer m its-callsign its-locator × WrittenInCapitals answer its-callsign its-locator)))))
 
   reads-back : (answer : MessageAnswer) → telemetryWritten callsign locator m ≡ answer
       → TelemetryReadsBack answer m (contentAfter answer callsign (measuredCallsign m)) (contentAfter answer locator (measuredLocator m))
@@ -139,24 +153,33 @@ module _ (callsign locator : List ℕ) (m : Measured) where
   within-steps (MessageAnswer.Power power) e = read-within-steps m power (measured-of-written callsign locator m power e)
   within-steps (MessageAnswer.Refused f) e = tt
 
+  in-capitals : (answer : MessageAnswer) → telemetryWritten callsign locator m ≡ answer
+      → WrittenInCapitals answer (contentAfter answer callsign (measuredCallsign m)) (contentAfter answer locator (measuredLocator m))
+  unfolding contentAfter
+  in-capitals (MessageAnswer.Power power) e = written-capitals m power (measured-of-written callsign locator m power e)
+  in-capitals (MessageAnswer.Refused f) e = tt
+
   pub write-promised : (answer : MessageAnswer) → telemetryWritten callsign locator m ≡ answer
       → WritePromised answer (contentAfter answer callsign (measuredCallsign m)) (contentAfter answer locator (measuredLocator m))
   unfolding callsignAfterTelemetry locatorAfterTelemetry
-  write-promised answer e = (sym e, (rw e, (rw e, (rw e, (reads-back answer e, within-steps answer e)))))
+  write-promised answer e = (sym e, (rw e, (rw e, (rw e, (reads-back answer e, (within-steps answer e, in-capitals answer e))))))
 
 module _ (callsign locator : List ℕ) (power : ℕ) where
   abbrev pub ReadPromised : TelemetryAnswer → Type 0
   ReadPromised answer =
       (answer ≡ telemetryRead callsign locator power)
       × ((telemetryNumbers answer ≡ telemetryNumbers (telemetryRead callsign locator power))
-      × (TelemetryWritesBack answer callsign locator power × TelemetryRefusedExactly answer callsign locator power))
+      × ((answer ≡ telemetryRead (capitalForm callsign) (capitalForm locator) power)
+      × (TelemetryWritesBack answer callsign locator power × TelemetryRefusedExactly answer callsign locator power)))
 
   writes-back : (answer : TelemetryAnswer) → telemetryRead callsign locator power ≡ answer → TelemetryWritesBack answer callsign locator power
   writes-back (TelemetryAnswer.Telemetry r) e = write-read callsign locator power r e
   writes-back (TelemetryAnswer.Refused f) e = tt
 
   pub read-promised : (answer : TelemetryAnswer) → telemetryRead callsign locator power ≡ answer → ReadPromised answer
-  read-promised answer e = (sym e, (rw e, (writes-back answer e, rw e at (refuses-exactly callsign locator power))))
+  read-promised answer e =
+      let as-capitals = sym (telemetry-capitals callsign locator power ∙ e) in
+      (sym e, (rw e, (as-capitals, (writes-back answer e, rw e at (refuses-exactly callsign locator power)))))
 
 module _ (word : ℕ) where
   abbrev pub WordPromised : TelemetryAnswer → Type 0

@@ -1,11 +1,12 @@
 -- What writing and reading telemetry promise of each other (demand 2): the round trips, how far what reads back is from what was measured
--- (02, L2), and that the reader refuses exactly the messages that the writer never makes.
+-- (02, L2), and that the reader refuses exactly the messages whose capital form the writer never makes (02, L4).
 use Prim.Native.Nat.{ℕ, _*_}
 use mathlib.Core.Path.{_≡_}
 use mathlib.Core.Logic.{_↔_}
 use mathlib.Core.List.{List}
 use lib.IntN.{pos, _*ℤ_}
 use Rattle.basics.specs.Rounding.{WithinStepBelow}
+use Rattle.message.specs.Character.{capitalForm}
 use Rattle.message.specs.Answer.{messagePacked}
 use Rattle.message.specs.declared.MessageAnswer.{MessageAnswer}
 use Rattle.message.specs.declared.WordAnswer.{WordAnswer}
@@ -77,9 +78,10 @@ abbrev pub TelemetryWithinSteps : MessageAnswer → Measured → List ℕ → Li
 TelemetryWithinSteps (MessageAnswer.Power p) m callsign locator = ReadWithinSteps (telemetryRead callsign locator p) m
 TelemetryWithinSteps (MessageAnswer.Refused f) m callsign locator = Unit
 
--- What was read writes back: the answer's readings, where it has them, write the same message.
+-- What was read writes the capital form back: the answer's readings, where it has them, write the message in capitals.
 abbrev pub TelemetryWritesBack : TelemetryAnswer → List ℕ → List ℕ → ℕ → Type 0
-TelemetryWritesBack (TelemetryAnswer.Telemetry r) callsign locator power = MeasuredWritesAs (inTenths r) callsign locator power
+TelemetryWritesBack (TelemetryAnswer.Telemetry r) callsign locator power =
+    MeasuredWritesAs (inTenths r) (capitalForm callsign) (capitalForm locator) power
 TelemetryWritesBack (TelemetryAnswer.Refused f) callsign locator power = Unit
 
 -- The answer is a refusal.
@@ -92,9 +94,10 @@ TelemetryRefused (TelemetryAnswer.Refused f) = Unit
 abbrev pub NeverFromMeasured : List ℕ → List ℕ → ℕ → Type 0
 NeverFromMeasured callsign locator power = (m : Measured) → MeasuredWritesAs m callsign locator power → ⊥
 
--- The answer is a refusal exactly where nothing that is measured writes the message.
+-- The answer is a refusal exactly where nothing that is measured writes the message's capital form.
 abbrev pub TelemetryRefusedExactly : TelemetryAnswer → List ℕ → List ℕ → ℕ → Type 0
-TelemetryRefusedExactly answer callsign locator power = TelemetryRefused answer ↔ NeverFromMeasured callsign locator power
+TelemetryRefusedExactly answer callsign locator power =
+    TelemetryRefused answer ↔ NeverFromMeasured (capitalForm callsign) (capitalForm locator) power
 
 -- ---- The telemetry of a word
 

@@ -3,7 +3,9 @@ mod codes;
 mod range;
 
 ghost use mathlib.Core.Path.{_≡_};
+ghost use Rattle.message.specs.Character.{capitalForm};
 ghost use Rattle.message.specs.Answer.{messageNumbers};
+ghost use Rattle.message.specs.RoundTrip.{WrittenInCapitals};
 ghost use Rattle.telemetry.specs.Answer.{telemetryWritten, callsignAfterTelemetry, locatorAfterTelemetry, telemetryRead, wordTelemetry, telemetryNumbers};
 ghost use Rattle.telemetry.specs.RoundTrip.{TelemetryReadsBack, TelemetryWithinSteps, TelemetryWritesBack, TelemetryRefusedExactly, WordSentBack, WordTelemetryRefusedExactly};
 use message::MessageAnswer;
@@ -54,6 +56,7 @@ pub fn write(measured: Measured, callsign: &mut [u8], locator: &mut [u8]) -> Mes
     ensures locator_after { λ _. ⌜ now (locator .exit) ≡ locatorAfterTelemetry (now (callsign .entry)) (now (locator .entry)) measured ⌝ }
     ensures reads_back { λ r. ⌜ TelemetryReadsBack r measured (now (callsign .exit)) (now (locator .exit)) ⌝ }
     ensures within_steps { λ r. ⌜ TelemetryWithinSteps r measured (now (callsign .exit)) (now (locator .exit)) ⌝ }
+    ensures in_capitals { λ r. ⌜ WrittenInCapitals r (now (callsign .exit)) (now (locator .exit)) ⌝ }
 {
     if !message::right_lengths(callsign.len(), locator.len()) {
         return MessageAnswer::Refused(Refusal {
@@ -72,10 +75,11 @@ pub fn write(measured: Measured, callsign: &mut [u8], locator: &mut [u8]) -> Mes
     u4b::write(FirstCharacters::ZeroOneQ, payload, callsign, locator)
 }
 
-// What a message says, where it is one of basic telemetry.
+// What a message says, where it is one of basic telemetry: the same as its capital form.
 pub fn read(callsign: &[u8], locator: &[u8], power: u32) -> TelemetryAnswer
     ensures answer { λ r. ⌜ r ≡ telemetryRead (now (callsign .entry)) (now (locator .entry)) power ⌝ }
     ensures numbers { λ r. ⌜ telemetryNumbers r ≡ telemetryNumbers (telemetryRead (now (callsign .entry)) (now (locator .entry)) power) ⌝ }
+    ensures as_capitals { λ r. ⌜ r ≡ telemetryRead (capitalForm (now (callsign .entry))) (capitalForm (now (locator .entry))) power ⌝ }
     ensures writes_back { λ r. ⌜ TelemetryWritesBack r (now (callsign .entry)) (now (locator .entry)) power ⌝ }
     ensures refuses_exactly { λ r. ⌜ TelemetryRefusedExactly r (now (callsign .entry)) (now (locator .entry)) power ⌝ }
 {

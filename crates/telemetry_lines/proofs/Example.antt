@@ -5,7 +5,7 @@ use Rattle.basics.specs.Lists.{firstFailing, indexIn, sameList}
 use Rattle.basics.proofs.ListLaws.{sameList-equal}
 use Rattle.radix.specs.Numeral.{count, numberOf, numberFrom, digitsOf}
 use Rattle.power.specs.Powers.{powers, powerIndex, legalPower}
-use Rattle.message.specs.Character.{value, callsignSets, locatorSets, setAt, legalAt, digitAt, overPlaces, digitsFrom}
+use Rattle.message.specs.Character.{capital, value, callsignSets, locatorSets, setAt, legalAt, digitAt, overPlaces, digitsFrom}
 use Rattle.message.specs.Answer.{rightLengths, messageChecked}
 use Rattle.u4b.specs.Channel.{isFirstCharacter}
 use Rattle.u4b.specs.Alphabet.{takenAt, firstNotTaken}
@@ -20,7 +20,7 @@ use Rattle.telemetry_lines.specs.Stream.{lineAfter, outputAfter, lastTex
 use Rattle.telemetry_lines.specs.Example.{linesOf, exampleInput, exampleOutput}
 
 pub example-shown : outputOf exampleInput ≡ exampleOutput
-unfolding bytes firstFailing sameList count numberOf numberFrom digitsOf powers indexIn powerIndex legalPower value callsignSets
+unfolding bytes firstFailing sameList count numberOf numberFrom digitsOf powers indexIn powerIndex legalPower capital value callsignSets
     locatorSets setAt legalAt digitAt overPlaces digitsFrom
     rightLengths messageChecked isFirstCharacter metres degrees millivolts knots positionRadices sensorRadices readingFrom readingOf
     takenAt firstNotTaken upperRadices upperDigits upperOf lowerRadices lowerOf payloadOf messagePayload payloadIfLegal payloadRead

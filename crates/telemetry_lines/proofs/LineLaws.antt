@@ -1,4 +1,4 @@
--- Laws of a line: its form test by test, its answer in each case, and the bytes kept of it.
+-- Laws of a line: its form test by test, its answer in each case, in small letters too, and the bytes kept of it.
 use mathlib.Core.Path.{_≡_, sym, ap, _∙_}
 use Prim.Native.Nat.{ℕ, _+_, _≤_, _<_}
 use native.Mathlib.Numerals.{add-one}
@@ -6,14 +6,19 @@ use native.Mathlib.Omega.{arith}
 use mathlib.Core.Bool.{true, false, _&&_}
 use mathlib.Core.List.{List, [], _∷_, _++_}
 use lib.Dec.{eqb}
-use lib.ListN.{length, getD, take, drop, set, length-take, length-append}
+use lib.ListN.{length, getD, take, drop, set, length-take, length-append, length-map}
 use lib.Seq.{length-take-le, take-suc-set, take-take, take-all, take-append-le}
 use borrow.Author.Tests.{eqb-true, eq-eqb, ne-eqb}
 use Rattle.basics.specs.Test.{between}
-use Rattle.basics.proofs.Choice.{both-true, between-range, below-or-not}
+use Rattle.basics.proofs.Choice.{both-true, by-test, between-above, between-range, below-or-not}
+use Rattle.basics.proofs.ListLaws.{take-map, drop-map}
 use Rattle.refusal.specs.Refusals.{refusal, wrongLength}
+use Rattle.message.specs.Character.{capital, capitalForm}
+use Rattle.message.proofs.CharacterLaws.{capital-before, capital-test, capital-space}
+use Rattle.message.proofs.CapitalLaws.{getD-capitals}
 use Rattle.telemetry.specs.Answer.{telemetryRead}
 use Rattle.telemetry.specs.declared.TelemetryAnswer.{TelemetryAnswer}
+use Rattle.telemetry.proofs.AnswerLaws.{telemetry-capitals}
 use Rattle.telemetry_lines.specs.Text.{space}
 use Rattle.telemetry_lines.specs.Line.{hasForm, callsignIn, locatorIn, powerIn, lineAnswer, lineText}
 use Rattle.telemetry_lines.specs.Stream.{mostKept, heldBy}
@@ -73,6 +78,50 @@ answer-other line e = rw e
 pub answer-formed : (line : List ℕ) → hasForm line ≡ true → lineAnswer line ≡ telemetryRead (take 6 line) (take 4 (drop 7 line)) (powerIn line)
 unfolding lineAnswer callsignIn locatorIn
 answer-formed line e = rw e
+
+-- ---- Small letters count as their capitals
+
+digit-test : (b : ℕ) → between 48 57 (capital b) ≡ between 48 57 b
+digit-test b = capital-test (λ (c : ℕ). between 48 57 c) (λ c h. between-above 48 57 c (omega arith) (omega arith)) b
+
+form-capitals : (line : List ℕ) → hasForm (capitalForm line) ≡ hasForm line
+unfolding hasForm
+form-capitals line =
+    rw (
+      length-map line capital,
+      getD-capitals line 6,
+      getD-capitals line 11,
+      getD-capitals line 12,
+      getD-capitals line 13,
+      capital-space (getD line 6 0),
+      capital-space (getD line 11 0),
+      digit-test (getD line 12 0),
+      digit-test (getD line 13 0),
+    )
+
+power-capitals : (line : List ℕ) → Formed line → powerIn (capitalForm line) ≡ powerIn line
+unfolding powerIn
+power-capitals line f =
+    let tens : getD line 12 0 < 97 = omega (arith, f .tens-high) in
+    let ones : getD line 13 0 < 97 = omega (arith, f .ones-high) in
+    rw (getD-capitals line 12, getD-capitals line 13, capital-before tens, capital-before ones)
+
+pub line-capitals : (line : List ℕ) → lineAnswer (capitalForm line) ≡ lineAnswer line
+line-capitals line =
+    by-test (hasForm line)
+    (λ t. rw (
+      answer-formed (capitalForm line) (form-capitals line ∙ t),
+      answer-formed line t,
+      power-capitals line (formed line t),
+      take-map capital 6 line,
+      drop-map capital 7 line,
+      take-map capital 4 (drop 7 line),
+    ) (telemetry-capitals (take 6 line) (take 4 (drop 7 line)) (powerIn line)))
+    (λ t. rw (answer-other (capitalForm line) (form-capitals line ∙ t), answer-other line t))
+
+-- What answering a line promises, from the answer.
+pub line-promised : (line : List ℕ) (answer : TelemetryAnswer) → lineAnswer line ≡ answer → (answer ≡ lineAnswer line) × (answer ≡ lineAnswer (capitalForm line))
+line-promised line answer e = (sym e, sym (line-capitals line ∙ e))
 
 -- ---- The bytes kept
 

@@ -5,6 +5,7 @@ ghost use mathlib.Core.List.{[], _∷_, _++_};
 ghost use Prim.Native.Nat.{_≤_};
 ghost use lib.ListN.{take};
 ghost use Rattle.basics.specs.Test.{between};
+ghost use Rattle.message.specs.Character.{capitalForm};
 ghost use Rattle.telemetry_lines.specs.Stream.{mostKept, heldBy};
 ghost use Rattle.telemetry_lines.specs.Line.{hasForm, powerIn, lineAnswer};
 use refusal::Refusal;
@@ -73,9 +74,10 @@ fn power_in(line: &[u8]) -> u32
     (line[12] - b'0') as u32 * 10 + (line[13] - b'0') as u32
 }
 
-// The answer to a whole line.
+// The answer to a whole line, the same as to its capital form.
 fn answer_of(line: &[u8]) -> TelemetryAnswer
-    ensures { λ r. ⌜ r ≡ lineAnswer (now (line .entry)) ⌝ }
+    ensures answer { λ r. ⌜ r ≡ lineAnswer (now (line .entry)) ⌝ }
+    ensures as_capitals { λ r. ⌜ r ≡ lineAnswer (capitalForm (now (line .entry))) ⌝ }
 {
     if !has_form(line) {
         return TelemetryAnswer::Refused(Refusal {

@@ -1,24 +1,29 @@
 -- The cases of the definitions of the answers, each by what holds there, and what an answer that is no refusal says of its input.
-use mathlib.Core.Path.{_≡_, refl, sym, _∙_}
+use mathlib.Core.Path.{_≡_, refl, sym, ap, _∙_}
 use Prim.Native.Nat.{ℕ, _≤_, _<_}
 use native.Mathlib.Omega.{arith}
 use mathlib.Core.Bool.{true, false, not}
 use mathlib.Core.List.{List}
 use lib.Dec.{ltb}
-use lib.ListN.{length}
+use lib.ListN.{length, getD}
 use borrow.Author.Tests.{not-false, lt-ltb, le-ltb, ltb-false}
 use Rattle.basics.proofs.Choice.{cond-passed, cond-both}
+use Rattle.basics.proofs.ListLaws.{firstFailing-map}
 use Rattle.refusal.specs.declared.Refusal.{Refusal}
 use Rattle.refusal.specs.Refusals.{refusal, wrongLength, notTelemetry, outOfRange}
+use Rattle.message.specs.Character.{capital, capitalForm}
 use Rattle.message.specs.Answer.{rightLengths, messageChecked, messageNumbers}
 use Rattle.message.specs.declared.CheckAnswer.{CheckAnswer}
 use Rattle.message.specs.declared.MessageAnswer.{MessageAnswer}
 use Rattle.message.proofs.AnswerLaws.{Legal, legal-of-checked, checked-nonzero, refused-no-power}
+use Rattle.message.proofs.CharacterLaws.{capital-capital, capital-space}
+use Rattle.message.proofs.CapitalLaws.{getD-capitals, digits-capitals, checked-capitals}
 use Rattle.u4b.specs.Channel.{isFirstCharacter, isThirdCharacter}
-use Rattle.u4b.specs.Alphabet.{firstNotTaken}
-use Rattle.u4b.specs.Characters.{powerWith}
+use Rattle.u4b.specs.Alphabet.{takenAt, firstNotTaken}
+use Rattle.u4b.specs.Characters.{upperDigits, upperOf, powerWith, lowerOf}
 use Rattle.u4b.specs.Answer.{payloadMessage, payloadWritten, payloadOf, payloadAlphabet, messagePayload, payloadIfLegal, payloadRead}
 use Rattle.u4b.specs.declared.channel.FirstCharacters.{FirstCharacters}
+use Rattle.u4b.specs.declared.alphabet.Alphabet.{Alphabet}
 use Rattle.u4b.specs.declared.Payload.{Payload}
 use Rattle.u4b.specs.declared.PayloadAnswer.{PayloadAnswer}
 
@@ -113,6 +118,35 @@ readable taken callsign locator power p e = go (messageChecked callsign locator 
         let (all-taken, same) = taken-of (sym (read-legal taken callsign locator power c) ∙ e) in
         record { legal = legal-of-checked callsign locator power c; all-taken = all-taken; is-payload = same }
     go (CheckAnswer.Refused f) c = absurd (refused-no-payload f p (sym (read-illegal taken callsign locator power f c) ∙ e))
+
+-- ---- Small letters count as their capitals
+
+taken-capital : (alphabet : Alphabet) (place b : ℕ) → takenAt alphabet place (capital b) ≡ takenAt alphabet place b
+unfolding takenAt
+taken-capital alphabet place b = rw (capital-capital b, capital-space b)
+
+taken-capitals : (alphabet : Alphabet) (callsign : List ℕ) → firstNotTaken alphabet (capitalForm callsign) ≡ firstNotTaken alphabet callsign
+unfolding firstNotTaken
+taken-capitals alphabet callsign = firstFailing-map (takenAt alphabet) capital (taken-capital alphabet) 0 callsign
+
+-- A character of the capital form, as a capital.
+capital-at : (i : ℕ) (bs : List ℕ) → capital (getD (capitalForm bs) i 0) ≡ capital (getD bs i 0)
+capital-at i bs = ap capital (getD-capitals bs i) ∙ capital-capital (getD bs i 0)
+
+payload-capitals : (callsign locator : List ℕ) (power : ℕ) → payloadOf (capitalForm callsign) (capitalForm locator) power ≡ payloadOf callsign locator power
+unfolding payloadOf upperOf upperDigits lowerOf
+payload-capitals callsign locator power =
+    rw (capital-at 0 callsign, capital-at 2 callsign, digits-capitals 0 callsign, digits-capitals 6 locator)
+
+pub read-capitals : (taken : FirstCharacters) (callsign locator : List ℕ) (power : ℕ)
+    → payloadRead taken (capitalForm callsign) (capitalForm locator) power ≡ payloadRead taken callsign locator power
+unfolding payloadRead messagePayload
+read-capitals taken callsign locator power =
+    rw (
+      checked-capitals callsign locator power,
+      taken-capitals (payloadAlphabet taken) callsign,
+      payload-capitals callsign locator power,
+    )
 
 -- ---- The refusal number 0 is that of the answers that are no refusal
 

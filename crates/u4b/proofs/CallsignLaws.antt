@@ -1,4 +1,5 @@
--- Laws of the callsign: the channel and the upper number in it and back, both ways, and that what is written is legal and taken.
+-- Laws of the callsign: the channel and the upper number in it and back, both ways, and that what is written is legal, taken and in
+-- capitals.
 use mathlib.Core.Path.{_≡_, refl, sym, ap, _∙_, subst}
 use Prim.Native.Nat.{ℕ, _+_, _%_, _≤_, _<_}
 use native.Mathlib.Omega.{arith}
@@ -12,9 +13,10 @@ use Rattle.basics.proofs.Choice.{by-test, equal-or-not, between-true, between-r
 use Rattle.basics.proofs.ListLaws.{AllPass, all-pass, none-fails, by-places}
 use Rattle.radix.specs.Numeral.{Digits, Positive, count, numberOf, digitsOf}
 use Rattle.radix.proofs.Laws.{digits-in-range, digitsOf-numberOf, numberOf-digitsOf-mod}
-use Rattle.message.specs.Character.{value, character, setAt, callsignSets, locatorSets, legalAt, digitAt, characterAt, overPlaces, digitsFrom, charactersFrom, DigitsAt}
-use Rattle.message.proofs.CharacterLaws.{AllLegal, value-digit, character-digit, character-letter, character-space, character-value, legal-from, legal-end, digits-of-legal, characters-of-digits, legal-of-digits, digits-of-characters}
-use Rattle.u4b.specs.Channel.{isFirstCharacter, isThirdCharacter}
+use Rattle.message.specs.Character.{capital, capitalForm, value, character, setAt, callsignSets, locatorSets, legalAt, digitAt, characterAt, overPlaces, digitsFrom, charactersFrom, DigitsAt}
+use Rattle.message.proofs.CharacterLaws.{AllLegal, capital-before, capital-no-letter, value-digit, character-digit, character-letter, character-space, character-value, legal-from, legal-end, digits-of-legal, characters-of-digits, legal-of-digits, digits-of-characters}
+use Rattle.message.proofs.CapitalLaws.{characters-capitals}
+use Rattle.u4b.specs.Channel.{isFirstCharacter, isThirdCharacter, channelOf}
 use Rattle.u4b.specs.Alphabet.{takenAt, firstNotTaken}
 use Rattle.u4b.specs.Characters.{upperRadices, callsignWith, upperDigits, upperOf}
 use Rattle.u4b.specs.Answer.{payloadAlphabet}
@@ -44,25 +46,35 @@ first-cases P FirstCharacters.ZeroQ byte e p q r =
     by-test (eqb byte 48) (λ t. subst P (sym (eqb-true byte 48 t)) p)
     (λ f. subst P (sym (eqb-true byte 81 (rw f at e))) r)
 
--- The channel's characters are legal at their places.
+-- The channel's characters are legal at their places, and their own capitals.
 pub first-legal : (taken : FirstCharacters) (byte : ℕ) → isFirstCharacter taken byte ≡ true → legalAt 0 byte ≡ true
-unfolding legalAt value setAt callsignSets locatorSets
+unfolding legalAt value capital setAt callsignSets locatorSets
 first-legal taken byte e = first-cases (λ b. legalAt 0 b ≡ true) taken byte e refl refl refl
+
+first-capital : (taken : FirstCharacters) (byte : ℕ) → isFirstCharacter taken byte ≡ true → capital byte ≡ byte
+unfolding capital
+first-capital taken byte e = first-cases (λ b. capital b ≡ b) taken byte e refl refl refl
+
+third-capital : (byte : ℕ) → isThirdCharacter byte ≡ true → capital byte ≡ byte
+third-capital byte e =
+    let r = between-range 48 57 byte e in
+    capital-before (omega arith)
 
 pub third-legal : (byte : ℕ) → isThirdCharacter byte ≡ true → legalAt 2 byte ≡ true
 unfolding setAt callsignSets locatorSets
 third-legal byte e =
     let r = between-range 48 57 byte e in
-    let v = value-digit (r .0) (r .1) in
+    let c = third-capital byte e in
+    let v = value-digit byte (omega arith) (omega arith) in
     legal-from 2 byte (omega arith) (omega arith)
 
--- A legal third character is a digit.
-third-of-legal : (byte : ℕ) → legalAt 2 byte ≡ true → isThirdCharacter byte ≡ true
+-- A legal third character is a digit, and so its own capital.
+third-of-legal : (byte : ℕ) → legalAt 2 byte ≡ true → (capital byte ≡ byte) × (isThirdCharacter (capital byte) ≡ true)
 unfolding setAt callsignSets locatorSets
 third-of-legal byte e =
-    let small : value byte < 10 = legal-end 2 byte e in
-    let same : byte ≡ value byte + 48 = sym (character-value byte (omega arith)) ∙ character-digit small in
-    between-true 48 57 byte (omega arith) (omega arith)
+    let below : value byte < 10 = legal-end 2 byte e in
+    let digit : capital byte ≡ value byte + 48 = sym (character-value byte (omega arith)) ∙ character-digit below in
+    (sym (capital-no-letter byte (omega arith)), between-true 48 57 (capital byte) (omega arith) (omega arith))
 
 -- Every character of a callsign is taken at its place.
 abbrev AllTaken : FirstCharacters → List ℕ → Type 0
@@ -109,11 +121,22 @@ module _ (channel : Channel) (a : ℕ) where
       (taken, (characters .1 .0, (third, characters .1 .1 .1)))
 
   module _ (taken : FirstCharacters) (is-first : isFirstCharacter taken (channel .first) ≡ true) where
+    pub callsignWith-capitals : isThirdCharacter (channel .third) ≡ true → capitalForm (callsignWith channel a) ≡ callsignWith channel a
+    unfolding callsignWith charactersFrom overPlaces
+    callsignWith-capitals is-third =
+        rw (first-capital taken (channel .first) is-first, third-capital (channel .third) is-third)
+        (ap (λ (l : List ℕ). channel .first ∷ getD l 1 0 ∷ channel .third ∷ getD l 3 0 ∷ getD l 4 0 ∷ getD l 5 0 ∷ [])
+        (characters-capitals 0 (sixDigits (digitsOf upperRadices a))))
+
+    pub channelOf-callsignWith : isThirdCharacter (channel .third) ≡ true → channelOf (callsignWith channel a) ≡ channel
+    unfolding callsignWith
+    channelOf-callsignWith is-third = rw (first-capital taken (channel .first) is-first, third-capital (channel .third) is-third)
+
     all-taken : AllTaken taken (callsignWith channel a)
     unfolding AllPass Digits takenAt callsignWith characterAt digitsOf setAt callsignSets locatorSets upperRadices
     all-taken =
         let p = digits-in-range upperRadices a upper-positive in (
-          is-first,
+          rw (first-capital taken (channel .first) is-first) is-first,
           (
             refl,
             (
@@ -133,8 +156,8 @@ module _ (channel : Channel) (a : ℕ) where
 below-space : (byte : ℕ) → value byte < 37 → not (eqb byte 32) ≡ true → value byte < 36
 below-space byte h e =
     equal-or-not (value byte) 36
-    (λ same. let space : byte ≡ 32 = sym (character-value byte h) ∙ ap character same ∙ character-space (omega arith) in
-    absurd (true≢false (sym e ∙ ap not (eq-eqb byte 32 space))))
+    (λ same. let space : capital byte ≡ 32 = sym (character-value byte h) ∙ ap character same ∙ character-space (omega arith) in
+    absurd (true≢false (sym e ∙ ap not (eq-eqb byte 32 (capital-no-letter byte (omega arith) ∙ space)))))
     (λ other. omega arith)
 
 module _ (c0 c1 c2 c3 c4 c5 : ℕ) where
@@ -154,11 +177,11 @@ module _ (c0 c1 c2 c3 c4 c5 : ℕ) where
         let b5 = below-space c5 v5 (all-taken .1 .1 .1 .1 .1 .0) in
         (d .1 .0, (omega arith, (omega arith, (omega arith, tt))))
 
-    callsign-again : callsignWith (record { first = c0; third = c2 }) (upperOf callsign) ≡ callsign
+    callsign-again : callsignWith (record { first = capital c0; third = capital c2 }) (upperOf callsign) ≡ capitalForm callsign
     unfolding callsignWith upperOf upperDigits charactersFrom digitsFrom overPlaces
     callsign-again =
         rw (digitsOf-numberOf upperRadices (upperDigits callsign) digits-in)
-        (ap (λ (l : List ℕ). c0 ∷ getD l 1 0 ∷ c2 ∷ getD l 3 0 ∷ getD l 4 0 ∷ getD l 5 0 ∷ []) (characters-of-digits 0 callsign legal))
+        (ap (λ (l : List ℕ). capital c0 ∷ getD l 1 0 ∷ capital c2 ∷ getD l 3 0 ∷ getD l 4 0 ∷ getD l 5 0 ∷ []) (characters-of-digits 0 callsign legal))
 
 module _ (callsign : List ℕ) (six : length callsign ≡ 6) where
   -- A callsign, character by character.
@@ -167,27 +190,28 @@ module _ (callsign : List ℕ) (six : length callsign ≡ 6) where
   unfolding tabulate
   its-characters = by-places 6 callsign six
 
+  -- The third character is its own capital, and in range.
+  pub third-of : AllLegal 0 callsign → (capital (getD callsign 2 0) ≡ getD callsign 2 0) × (isThirdCharacter (capital (getD callsign 2 0)) ≡ true)
+  unfolding AllPass
+  third-of legal = third-of-legal _ (subst (AllLegal 0) its-characters legal .1 .1 .0)
+
   module _ (taken : FirstCharacters) (legal : AllLegal 0 callsign) (none : 6 ≤ firstNotTaken (payloadAlphabet taken) callsign) where
     its-taken : AllTaken taken callsign
     unfolding firstNotTaken
     its-taken = all-pass (takenAt (payloadAlphabet taken)) 0 callsign (omega arith)
 
-    -- The channel's characters are in range.
-    pub first-of : isFirstCharacter taken (getD callsign 0 0) ≡ true
+    -- The first character, as its capital, is in range.
+    pub first-of : isFirstCharacter taken (capital (getD callsign 0 0)) ≡ true
     unfolding takenAt AllPass
     first-of = subst (AllTaken taken) its-characters its-taken .0
-
-    pub third-of : isThirdCharacter (getD callsign 2 0) ≡ true
-    unfolding AllPass
-    third-of = third-of-legal _ (subst (AllLegal 0) its-characters legal .1 .1 .0)
 
     pub upper-digits-in : Digits upperRadices (upperDigits callsign)
     upper-digits-in =
         subst (λ (l : List ℕ). Digits upperRadices (upperDigits l)) (sym its-characters)
         (digits-in _ _ _ _ _ _ taken (subst (AllLegal 0) its-characters legal) (subst (AllTaken taken) its-characters its-taken))
 
-    -- The channel's characters and the number make the callsign again.
-    pub callsignWith-upperOf : callsignWith (record { first = getD callsign 0 0; third = getD callsign 2 0 }) (upperOf callsign) ≡ callsign
+    -- The channel's characters and the number make the callsign again, in capitals.
+    pub callsignWith-upperOf : callsignWith (channelOf callsign) (upperOf callsign) ≡ capitalForm callsign
     callsignWith-upperOf =
-        subst (λ (l : List ℕ). callsignWith (record { first = getD l 0 0; third = getD l 2 0 }) (upperOf l) ≡ l) (sym its-characters)
+        subst (λ (l : List ℕ). callsignWith (channelOf l) (upperOf l) ≡ capitalForm l) (sym its-characters)
         (callsign-again _ _ _ _ _ _ taken (subst (AllLegal 0) its-characters legal) (subst (AllTaken taken) its-characters its-taken))

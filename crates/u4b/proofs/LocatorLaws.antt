@@ -1,4 +1,4 @@
--- Laws of the locator and power: the lower number in them and back, both ways, and that what is written is legal.
+-- Laws of the locator and power: the lower number in them and back, both ways, and that what is written is legal and in capitals.
 use mathlib.Core.Path.{_≡_, refl}
 use Prim.Native.Nat.{ℕ, _%_, _<_}
 use native.Mathlib.Omega.{arith}
@@ -9,8 +9,9 @@ use Rattle.radix.specs.Numeral.{Digits, Positive, count, digitsOf}
 use Rattle.radix.proofs.Laws.{digits-in-range, digitsOf-numberOf, numberOf-digitsOf-mod}
 use Rattle.power.specs.Powers.{powerIndex, legalPower}
 use Rattle.power.proofs.Laws.{powerAt-powerIndex, powerIndex-powerAt, legal-index, legal-powerAt}
-use Rattle.message.specs.Character.{setAt, callsignSets, locatorSets, digitsFrom, DigitsAt}
+use Rattle.message.specs.Character.{capitalForm, setAt, callsignSets, locatorSets, digitsFrom, DigitsAt}
 use Rattle.message.proofs.CharacterLaws.{AllLegal, characters-of-digits, legal-of-digits, digits-of-characters, length-charactersFrom}
+use Rattle.message.proofs.CapitalLaws.{characters-capitals}
 use Rattle.message.proofs.WordLaws.{locator-in-sets}
 use Rattle.u4b.specs.Characters.{lowerRadices, locatorWith, powerWith, lowerOf}
 
@@ -51,6 +52,10 @@ pub locatorWith-legal : (b : ℕ) → AllLegal 6 (locatorWith b)
 unfolding locatorWith
 locatorWith-legal b = legal-of-digits 6 _ (four-digits-at b)
 
+pub locatorWith-capitals : (b : ℕ) → capitalForm (locatorWith b) ≡ locatorWith b
+unfolding locatorWith
+locatorWith-capitals b = characters-capitals 6 (fourDigits (digitsOf lowerRadices b))
+
 pub powerWith-legal : (b : ℕ) → legalPower (powerWith b) ≡ true
 unfolding powerWith
 powerWith-legal b = legal-powerAt _ (index-below b)
@@ -74,8 +79,8 @@ module _ (locator : List ℕ) (power : ℕ) (four : length locator ≡ 4) (legal
   unfolding lowerOf
   its-digits = digitsOf-numberOf lowerRadices _ lower-digits-in
 
-  -- The number makes the locator and the power again.
-  pub locatorWith-lowerOf : locatorWith (lowerOf locator power) ≡ locator
+  -- The number makes the locator, in capitals, and the power again.
+  pub locatorWith-lowerOf : locatorWith (lowerOf locator power) ≡ capitalForm locator
   unfolding locatorWith
   locatorWith-lowerOf = rw (its-digits, ← locator-in-sets locator four legal .all) (characters-of-digits 6 locator legal)
 

@@ -4,12 +4,12 @@ use Prim.Native.Nat.{ℕ}
 use mathlib.Core.Bool.{false, cond, not}
 use mathlib.Core.List.{List}
 use lib.Dec.{ltb}
-use lib.ListN.{length, getD}
+use lib.ListN.{length}
 use Rattle.refusal.specs.Refusals.{refusal, wrongLength, notTelemetry, outOfRange}
 use Rattle.message.specs.Answer.{rightLengths, messageChecked, contentAfter}
 use Rattle.message.specs.declared.CheckAnswer.{CheckAnswer}
 use Rattle.message.specs.declared.MessageAnswer.{MessageAnswer}
-use Rattle.u4b.specs.Channel.{isFirstCharacter, isThirdCharacter, noChannel}
+use Rattle.u4b.specs.Channel.{isFirstCharacter, isThirdCharacter, channelOf, noChannel}
 use Rattle.u4b.specs.Alphabet.{firstNotTaken}
 use Rattle.u4b.specs.Characters.{callsignWith, upperOf, locatorWith, powerWith, lowerOf}
 use Rattle.u4b.specs.declared.channel.FirstCharacters.{FirstCharacters}
@@ -51,10 +51,10 @@ locatorAfterPayload taken callsign locator payload =
 
 -- ---- Reading: "telemetry reading 1, 2, 3, 10, .."
 
--- The channel's characters and the two numbers of a message.
+-- The channel and the two numbers of a message.
 unfoldable pub payloadOf : List ℕ → List ℕ → ℕ → Payload
 payloadOf callsign locator power = record {
-  channel = record { first = getD callsign 0 0; third = getD callsign 2 0 };
+  channel = channelOf callsign;
   upper = upperOf callsign;
   lower = lowerOf locator power;
 }

@@ -1,10 +1,11 @@
--- What writing and reading a payload promise of each other (demand 2): the round trips, and that the reader refuses exactly the messages
--- that the writer never makes.
+-- What writing and reading a payload promise of each other (demand 2; 02, L4): the round trips, and that the reader refuses exactly the
+-- messages whose capital form the writer never makes.
 use Prim.Native.Nat.{ℕ, _%_}
 use mathlib.Core.Path.{_≡_}
 use mathlib.Core.Logic.{_↔_}
 use mathlib.Core.List.{List}
 use Rattle.radix.specs.Numeral.{count}
+use Rattle.message.specs.Character.{capitalForm}
 use Rattle.message.specs.declared.MessageAnswer.{MessageAnswer}
 use Rattle.u4b.specs.Characters.{upperRadices, lowerRadices}
 use Rattle.u4b.specs.Answer.{payloadMessage, payloadCallsign, payloadLocator, payloadRead}
@@ -32,9 +33,10 @@ PayloadReadsBack (MessageAnswer.Power p) taken payload callsign locator =
     payloadRead taken callsign locator p ≡ PayloadAnswer.Payload (writtenPart payload)
 PayloadReadsBack (MessageAnswer.Refused f) taken payload callsign locator = Unit
 
--- What was read writes back: the answer's payload, where it has one, writes the same message.
+-- What was read writes the capital form back: the answer's payload, where it has one, writes the message in capitals.
 abbrev pub PayloadWritesBack : PayloadAnswer → FirstCharacters → List ℕ → List ℕ → ℕ → Type 0
-PayloadWritesBack (PayloadAnswer.Payload p) taken callsign locator power = PayloadWritesAs taken p callsign locator power
+PayloadWritesBack (PayloadAnswer.Payload p) taken callsign locator power =
+    PayloadWritesAs taken p (capitalForm callsign) (capitalForm locator) power
 PayloadWritesBack (PayloadAnswer.Refused f) taken callsign locator power = Unit
 
 -- The answer is a refusal.
@@ -47,6 +49,7 @@ PayloadRefused (PayloadAnswer.Refused f) = Unit
 abbrev pub NeverFromPayload : FirstCharacters → List ℕ → List ℕ → ℕ → Type 0
 NeverFromPayload taken callsign locator power = (payload : Payload) → PayloadWritesAs taken payload callsign locator power → ⊥
 
--- The answer is a refusal exactly where no payload writes the message.
+-- The answer is a refusal exactly where no payload writes the message's capital form.
 abbrev pub PayloadRefusedExactly : PayloadAnswer → FirstCharacters → List ℕ → List ℕ → ℕ → Type 0
-PayloadRefusedExactly answer taken callsign locator power = PayloadRefused answer ↔ NeverFromPayload taken callsign locator power
+PayloadRefusedExactly answer taken callsign locator power =
+    PayloadRefused answer ↔ NeverFromPayload taken (capitalForm callsign) (capitalForm locator) power

@@ -3,6 +3,7 @@ ghost use mathlib.Core.Path.{_≡_};
 ghost use Rattle.u4b.specs.Alphabet.{takenAt, firstNotTaken};
 use super::channel::FirstCharacters;
 use super::channel::is_first_character;
+use message::character::capital_of;
 
 // The characters that are taken as the first, and whether a space may stand last, in place 5.
 pub struct Alphabet {
@@ -10,13 +11,13 @@ pub struct Alphabet {
     pub last_space: bool,
 }
 
-// A legal character is taken at its place.
+// A legal character is taken at its place, a small letter where its capital is.
 fn is_taken_at(alphabet: Alphabet, place: usize, byte: u8) -> bool
     ensures { λ r. ⌜ r ≡ takenAt alphabet place byte ⌝ }
 {
     let taken = alphabet.taken;
     match place {
-        0 => is_first_character(taken, byte),
+        0 => is_first_character(taken, capital_of(byte)),
         1 | 2 => true,
         5 => alphabet.last_space || byte != b' ',
         _ => byte != b' ',

@@ -6,7 +6,9 @@ pub mod channel;
 mod locator;
 
 ghost use mathlib.Core.Path.{_≡_};
+ghost use Rattle.message.specs.Character.{capitalForm};
 ghost use Rattle.message.specs.Answer.{messageNumbers};
+ghost use Rattle.message.specs.RoundTrip.{WrittenInCapitals};
 ghost use Rattle.u4b.specs.Answer.{payloadWritten, callsignAfterPayload, locatorAfterPayload, payloadRead, payloadNumbers};
 ghost use Rattle.u4b.specs.RoundTrip.{PayloadReadsBack, PayloadWritesBack, PayloadRefusedExactly};
 use alphabet::Alphabet;
@@ -14,6 +16,7 @@ use channel::Channel;
 use channel::FirstCharacters;
 use message::CheckAnswer;
 use message::MessageAnswer;
+use message::character::capital_of;
 use refusal::NOT_TELEMETRY;
 use refusal::OUT_OF_RANGE;
 use refusal::Refusal;
@@ -46,6 +49,7 @@ pub fn write(
     ensures callsign_after { λ _. ⌜ now (callsign .exit) ≡ callsignAfterPayload taken (now (callsign .entry)) (now (locator .entry)) payload ⌝ }
     ensures locator_after { λ _. ⌜ now (locator .exit) ≡ locatorAfterPayload taken (now (callsign .entry)) (now (locator .entry)) payload ⌝ }
     ensures reads_back { λ r. ⌜ PayloadReadsBack r taken payload (now (callsign .exit)) (now (locator .exit)) ⌝ }
+    ensures in_capitals { λ r. ⌜ WrittenInCapitals r (now (callsign .exit)) (now (locator .exit)) ⌝ }
 {
     if !message::right_lengths(callsign.len(), locator.len()) {
         return MessageAnswer::Refused(Refusal {
@@ -70,10 +74,11 @@ pub fn write(
     MessageAnswer::Power(locator::write_locator(payload.lower, locator))
 }
 
-// The payload of a message.
+// The payload of a message, the same as that of its capital form.
 pub fn read(taken: FirstCharacters, callsign: &[u8], locator: &[u8], power: u32) -> PayloadAnswer
     ensures answer { λ r. ⌜ r ≡ payloadRead taken (now (callsign .entry)) (now (locator .entry)) power ⌝ }
     ensures numbers { λ r. ⌜ payloadNumbers r ≡ payloadNumbers (payloadRead taken (now (callsign .entry)) (now (locator .entry)) power) ⌝ }
+    ensures as_capitals { λ r. ⌜ r ≡ payloadRead taken (capitalForm (now (callsign .entry))) (capitalForm (now (locator .entry))) power ⌝ }
     ensures writes_back { λ r. ⌜ PayloadWritesBack r taken (now (callsign .entry)) (now (locator .entry)) power ⌝ }
     ensures refuses_exactly { λ r. ⌜ PayloadRefusedExactly r taken (now (callsign .entry)) (now (locator .entry)) power ⌝ }
 {
@@ -95,7 +100,7 @@ pub fn read(taken: FirstCharacters, callsign: &[u8], locator: &[u8], power: u32)
     }
     PayloadAnswer::Payload(Payload {
         channel: Channel {
-            first: callsign[0],
+            first: capital_of(callsign[0]),
             third: callsign[2],
         },
         upper: callsign::upper_of(callsign),

@@ -1,5 +1,5 @@
--- The worked examples (01, 'Bench sheet') that are marked P, and 02's of L2, as a table: what the definitions give, and what the papers
--- say.
+-- The worked examples (01, 'Bench sheet') that are marked P, 02's of L2, and for L4 some of 01's in small letters, as a table: what the
+-- definitions give, and what the papers say.
 use Prim.Native.Nat.{ℕ}
 use Prim.Native.String.{String}
 use mathlib.Core.Path.{_≡_}
@@ -85,6 +85,12 @@ examples =
     ∷ writeRefused (measuredAt 21_360) 14 4
     -- 02, L2: '-5 tenths becomes .. code 49.'
     ∷ number (temperatureCode (negℤ (pos 5))) 49
+    -- 02, L4: 'take a to z as their capitals': rows from above, in small letters. The channel's first character comes out as Q, 81.
+    ∷ number (callsignNumber (bytes " k1abc")) 259_047_992
+    ∷ number (locatorNumber (bytes "fn20")) 22_990
+    ∷ number (telemetryNumbers (telemetryRead (bytes "qq2xft") (bytes "gp99") 60) .reading .channel .first) 81
+    ∷ number (telemetryNumbers (telemetryRead (bytes "qq2xft") (bytes "gp99") 60) .reading .sensors .altitude) 12_340
+    ∷ readRefused "0z0aai" "rm31" 33 12 0
     ∷ []
 
 -- The statement: row by row, the definitions give what the papers state.

@@ -1,8 +1,9 @@
 // The card's functions for a host in C, declared in include/wsprcard.h: each is a thin layer over
 // that of its crate, with the answer's result numbers in a struct.
 ghost use mathlib.Core.Path.{_≡_};
+ghost use Rattle.message.specs.Character.{capitalForm};
 ghost use Rattle.message.specs.Answer.{messagePacked, wordUnpacked, callsignAfterUnpack, locatorAfterUnpack, wordNumbers, messageNumbers};
-ghost use Rattle.message.specs.RoundTrip.{UnpacksBack, PacksBack, UnpackRefusedExactly};
+ghost use Rattle.message.specs.RoundTrip.{UnpacksBack, PacksBack, WrittenInCapitals, UnpackRefusedExactly};
 ghost use Rattle.frame.specs.Answer.{writeNumbers, wordWritten, messageWritten, frameAfterWord, frameAfterMessage, wordRead, messageRead, callsignAfterRead, locatorAfterRead};
 ghost use Rattle.frame.specs.RoundTrip.{WordReadsBack, WordWritesBack, WordRefusedExactly, NoWordRefused, MessageReadsBack, MessageWritesBack, MessageRefusedExactly};
 ghost use Rattle.repair.specs.Answer.{frameRepaired, repairNumbers};
@@ -172,10 +173,11 @@ fn reading_result(answer: TelemetryAnswer) -> U4bReading
     }
 }
 
-// The word of a message.
+// The word of a message, the same as that of its capital form.
 #[no_mangle]
 pub extern "C" fn wspr_pack(callsign: &[u8], locator: &[u8], power: u32) -> WsprWord
     ensures answer { λ r. ⌜ r ≡ wordResult (wordNumbers (messagePacked (now (callsign .entry)) (now (locator .entry)) power)) ⌝ }
+    ensures as_capitals { λ r. ⌜ r ≡ wordResult (wordNumbers (messagePacked (capitalForm (now (callsign .entry))) (capitalForm (now (locator .entry))) power)) ⌝ }
     ensures unpacks_back { λ r. ⌜ UnpacksBack (wordAnswerIn r) (now (callsign .entry)) (now (locator .entry)) power ⌝ }
 {
     word_result(message::pack(callsign, locator, power))
@@ -188,6 +190,7 @@ pub extern "C" fn wspr_unpack(word: u64, callsign: &mut [u8], locator: &mut [u8]
     ensures callsign_after { λ _. ⌜ now (callsign .exit) ≡ callsignAfterUnpack (now (callsign .entry)) (now (locator .entry)) word ⌝ }
     ensures locator_after { λ _. ⌜ now (locator .exit) ≡ locatorAfterUnpack (now (callsign .entry)) (now (locator .entry)) word ⌝ }
     ensures packs_back { λ r. ⌜ PacksBack (messageAnswerIn r) word (now (callsign .exit)) (now (locator .exit)) ⌝ }
+    ensures in_capitals { λ r. ⌜ WrittenInCapitals (messageAnswerIn r) (now (callsign .exit)) (now (locator .exit)) ⌝ }
     ensures refuses_exactly { λ r. ⌜ UnpackRefusedExactly (messageAnswerIn r) word (now (callsign .entry)) (now (locator .entry)) ⌝ }
 {
     message_result(message::unpack(word, callsign, locator))
@@ -203,7 +206,7 @@ pub extern "C" fn wspr_write_word(word: u64, frame: &mut [u8]) -> WsprWritten
     written_result(frame::write_word(word, frame))
 }
 
-// Writes the frame of a message.
+// Writes the frame of a message, the same as that of its capital form.
 #[no_mangle]
 pub extern "C" fn wspr_write_message(
     callsign: &[u8],
@@ -213,6 +216,8 @@ pub extern "C" fn wspr_write_message(
 ) -> WsprWritten
     ensures answer { λ r. ⌜ r ≡ writtenResult (writeNumbers (messageWritten (now (callsign .entry)) (now (locator .entry)) power (now (frame .entry)))) ⌝ }
     ensures frame_after { λ _. ⌜ now (frame .exit) ≡ frameAfterMessage (now (callsign .entry)) (now (locator .entry)) power (now (frame .entry)) ⌝ }
+    ensures as_capitals { λ r. ⌜ r ≡ writtenResult (writeNumbers (messageWritten (capitalForm (now (callsign .entry))) (capitalForm (now (locator .entry))) power (now (frame .entry)))) ⌝ }
+    ensures frame_as_capitals { λ _. ⌜ now (frame .exit) ≡ frameAfterMessage (capitalForm (now (callsign .entry))) (capitalForm (now (locator .entry))) power (now (frame .entry)) ⌝ }
     ensures reads_back { λ r. ⌜ MessageReadsBack (writeAnswerIn r) (now (callsign .entry)) (now (locator .entry)) power (now (frame .exit)) ⌝ }
 {
     written_result(frame::write_message(callsign, locator, power, frame))
@@ -240,6 +245,7 @@ pub extern "C" fn wspr_read_message(
     ensures callsign_after { λ _. ⌜ now (callsign .exit) ≡ callsignAfterRead (now (frame .entry)) (now (callsign .entry)) (now (locator .entry)) ⌝ }
     ensures locator_after { λ _. ⌜ now (locator .exit) ≡ locatorAfterRead (now (frame .entry)) (now (callsign .entry)) (now (locator .entry)) ⌝ }
     ensures writes_back { λ r. ⌜ MessageWritesBack (messageAnswerIn r) (now (frame .entry)) (now (callsign .exit)) (now (locator .exit)) ⌝ }
+    ensures in_capitals { λ r. ⌜ WrittenInCapitals (messageAnswerIn r) (now (callsign .exit)) (now (locator .exit)) ⌝ }
     ensures refuses_exactly { λ r. ⌜ MessageRefusedExactly (messageAnswerIn r) (now (frame .entry)) (now (callsign .entry)) (now (locator .entry)) ⌝ }
 {
     message_result(frame::read_message(frame, callsign, locator))
@@ -276,6 +282,7 @@ pub extern "C" fn u4b_write(
     ensures locator_after { λ _. ⌜ now (locator .exit) ≡ locatorAfterTelemetry (now (callsign .entry)) (now (locator .entry)) (measuredFrom first third grid5 grid6 altitude temperature voltage speed gps) ⌝ }
     ensures reads_back { λ r. ⌜ TelemetryReadsBack (messageAnswerIn r) (measuredFrom first third grid5 grid6 altitude temperature voltage speed gps) (now (callsign .exit)) (now (locator .exit)) ⌝ }
     ensures within_steps { λ r. ⌜ TelemetryWithinSteps (messageAnswerIn r) (measuredFrom first third grid5 grid6 altitude temperature voltage speed gps) (now (callsign .exit)) (now (locator .exit)) ⌝ }
+    ensures in_capitals { λ r. ⌜ WrittenInCapitals (messageAnswerIn r) (now (callsign .exit)) (now (locator .exit)) ⌝ }
 {
     let measured = Measured {
         channel: Channel { first, third },
@@ -291,10 +298,11 @@ pub extern "C" fn u4b_write(
     message_result(telemetry::write(measured, callsign, locator))
 }
 
-// The telemetry of a message.
+// The telemetry of a message, the same as that of its capital form.
 #[no_mangle]
 pub extern "C" fn u4b_read(callsign: &[u8], locator: &[u8], power: u32) -> U4bReading
     ensures answer { λ r. ⌜ r ≡ readingResult (telemetryNumbers (telemetryRead (now (callsign .entry)) (now (locator .entry)) power)) ⌝ }
+    ensures as_capitals { λ r. ⌜ r ≡ readingResult (telemetryNumbers (telemetryRead (capitalForm (now (callsign .entry))) (capitalForm (now (locator .entry))) power)) ⌝ }
     ensures writes_back { λ r. ⌜ TelemetryWritesBack (telemetryAnswerIn r) (now (callsign .entry)) (now (locator .entry)) power ⌝ }
     ensures refuses_exactly { λ r. ⌜ TelemetryRefusedExactly (telemetryAnswerIn r) (now (callsign .entry)) (now (locator .entry)) power ⌝ }
 {

@@ -45,7 +45,7 @@ returns-2 c =
     let r = k .before .before in
     let a = r .before .before .before .before .args in
     let e = u .unpack .ensures in
-    read-message-word (a .frame .now) (a .callsign .now) (a .locator .now) _ _ _ _ (sym (r .read-word .ensures .0) ∙ k .answer .given .1) (e .0) (e .1 .1 .0) (e .1 .1 .1 .0)
+    read-message-word (a .frame .now) (a .callsign .now) (a .locator .now) _ _ _ _ (sym (r .read-word .ensures .0) ∙ k .answer .given .1) (e .0) (e .1 .1 .0) (e .1 .1 .1 .0) (e .1 .1 .1 .1 .1 .0)
 
 pub read-message-spec : {M : Type 1} → statement M
 read-message-spec =

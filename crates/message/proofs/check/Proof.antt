@@ -6,9 +6,9 @@ use native.Mathlib.Omega.{arith}
 use borrow.Author.Needs.{needs}
 use borrow.Author.Tests.{not-true, not-false}
 use lib.ListN.{length}
-use Rattle.basics.proofs.Choice.{also}
-use Rattle.message.specs.Answer.{rightLengths, checkNumbers}
+use Rattle.message.specs.Answer.{rightLengths}
 use Rattle.message.proofs.AnswerLaws.{lengths-of-right, checked-length, checked-character, checked-power, checked-legal}
+use Rattle.message.proofs.CapitalLaws.{check-promised}
 use Rattle.message.proofs.check.Statement.{statement}
 use Rattle.message.proofs.check.Tie as tie
 
@@ -22,7 +22,8 @@ right-lengths-requires c κs = search needs
 returns : tie.Need-returns
 returns c =
     let a = c .before .before .before .before .args in
-    also checkNumbers (sym (checked-length (a .callsign .now) (a .locator .now) (a .power) (sym (c .before .right-lengths .ensures) ∙ not-true _ (c .if1 .taken))))
+    check-promised (a .callsign .now) (a .locator .now) (a .power) _
+    (checked-length (a .callsign .now) (a .locator .now) (a .power) (sym (c .before .right-lengths .ensures) ∙ not-true _ (c .if1 .taken)))
 
 first-bad-of-requires : tie.Need-first-bad-of-requires
 first-bad-of-requires c κs =
@@ -36,7 +37,8 @@ returns-2 : tie.Need-returns-2
 returns-2 c =
     let e = c .before .before in
     let a = e .before .before .before .before .args in
-    also checkNumbers (sym (checked-character (a .callsign .now) (a .locator .now) (a .power) (right e) _ (sym (c .before .first-bad-of .ensures)) (c .if2 .taken)))
+    check-promised (a .callsign .now) (a .locator .now) (a .power) _
+    (checked-character (a .callsign .now) (a .locator .now) (a .power) (right e) _ (sym (c .before .first-bad-of .ensures)) (c .if2 .taken))
 
 is-legal-requires : tie.Need-is-legal-requires
 is-legal-requires c κs = search needs
@@ -45,13 +47,15 @@ returns-3 : tie.Need-returns-3
 returns-3 c =
     let e = c .before .before .before .before in
     let a = e .before .before .before .before .args in
-    also checkNumbers (sym (checked-power (a .callsign .now) (a .locator .now) (a .power) (right e) (omega arith) (sym (c .before .is-legal .ensures) ∙ not-true _ (c .if3 .taken))))
+    check-promised (a .callsign .now) (a .locator .now) (a .power) _
+    (checked-power (a .callsign .now) (a .locator .now) (a .power) (right e) (omega arith) (sym (c .before .is-legal .ensures) ∙ not-true _ (c .if3 .taken)))
 
 returns-4 : tie.Need-returns-4
 returns-4 c =
     let e = c .before .before .before .before in
     let a = e .before .before .before .before .args in
-    also checkNumbers (sym (checked-legal (a .callsign .now) (a .locator .now) (a .power) (right e) (omega arith) (sym (c .before .is-legal .ensures) ∙ not-false _ (c .if3 .left))))
+    check-promised (a .callsign .now) (a .locator .now) (a .power) _
+    (checked-legal (a .callsign .now) (a .locator .now) (a .power) (right e) (omega arith) (sym (c .before .is-legal .ensures) ∙ not-false _ (c .if3 .left)))
 
 pub check-spec : {M : Type 1} → statement M
 check-spec =

@@ -11,6 +11,7 @@ use Rattle.message.specs.declared.CheckAnswer.{CheckAnswer}
 use Rattle.message.specs.declared.WordAnswer.{WordAnswer}
 use Rattle.message.proofs.WordLaws.{callsignNumber-below, locatorNumber-below}
 use Rattle.message.proofs.AnswerLaws.{Legal, legal-of-checked, packed-refused, packed-word}
+use Rattle.message.proofs.CapitalLaws.{packed-capitals}
 use Rattle.message.proofs.RoundTripLaws.{unpack-pack}
 use borrow.Author.Needs.{needs}
 use Rattle.message.proofs.pack.Statement.{statement}
@@ -38,7 +39,7 @@ returns c =
     let p = c .before .before .before in
     let a = p .before .before .before .args in
     let refused = packed-refused (a .callsign .now) (a .locator .now) (a .power) _ (sym (p .check .ensures .0) ∙ c .before .checked .given .1) in
-    (sym refused, (ap wordNumbers (sym refused), tt))
+    (sym refused, (ap wordNumbers (sym refused), (sym (packed-capitals (a .callsign .now) (a .locator .now) (a .power) ∙ refused), tt)))
 
 enum-told : tie.Need-enum-told
 enum-told c = search needs
@@ -67,7 +68,7 @@ returns-2 c =
     let locator = c .before .locator-number .ensures in
     let word : c .assemble .result ≡ wordOf (a .callsign .now) (a .locator .now) (a .power) = cc (c .assemble .ensures) in
     let made = packed-word (a .callsign .now) (a .locator .now) (a .power) (is-checked k) ∙ ap WordAnswer.Word (sym word) in
-    (sym made, (ap wordNumbers (sym made), unpack-pack _ _ _ _ made))
+    (sym made, (ap wordNumbers (sym made), (sym (packed-capitals (a .callsign .now) (a .locator .now) (a .power) ∙ made), unpack-pack _ _ _ _ made)))
 
 pub pack-spec : {M : Type 1} → statement M
 pack-spec =

@@ -10,7 +10,7 @@ use Rattle.message.specs.Answer.{messageChecked}
 use Rattle.message.specs.declared.CheckAnswer.{CheckAnswer}
 use Rattle.message.proofs.AnswerLaws.{Legal, legal-of-checked}
 use Rattle.u4b.specs.Answer.{payloadOf}
-use Rattle.u4b.proofs.CallsignLaws.{upper-digits-in}
+use Rattle.u4b.proofs.CallsignLaws.{third-of, upper-digits-in}
 use Rattle.u4b.proofs.AnswerLaws.{read-illegal, read-not-taken, read-payload}
 use Rattle.u4b.proofs.RoundTripLaws.{read-promised}
 use Rattle.u4b.proofs.read.Statement.{statement}
@@ -56,19 +56,22 @@ returns-2 c =
     read-promised (a .taken) (a .callsign .now) (a .locator .now) (a .power) _
     (read-not-taken (a .taken) (a .callsign .now) (a .locator .now) (a .power) (is-checked k) _ (sym (c .before .first-not-taken .ensures)) (c .if1 .taken))
 
-shared-slice-read-t13 : tie.Need-shared-slice-read-t13
-shared-slice-read-t13 c =
+shared-slice-read-capital-of : tie.Need-shared-slice-read-capital-of
+shared-slice-read-capital-of c =
     let l = its-legal (c .before .before .before) in
     omega (arith, l .six)
 
-shared-slice-read-t15 : tie.Need-shared-slice-read-t15
-shared-slice-read-t15 c =
-    let l = its-legal (c .before .before .before .before) in
+capital-of-requires : tie.Need-capital-of-requires
+capital-of-requires c κs = search needs
+
+shared-slice-read-t16 : tie.Need-shared-slice-read-t16
+shared-slice-read-t16 c =
+    let l = its-legal (c .before .before .before .before .before) in
     omega (arith, l .six)
 
 upper-of-requires : tie.Need-upper-of-requires
 upper-of-requires c κs =
-    let e = c .before .before in
+    let e = c .before .before .before in
     let k = e .before .before in
     let a = k .before .before .before .before .before .args in
     let l = its-legal k in
@@ -76,17 +79,20 @@ upper-of-requires c κs =
 
 lower-of-requires : tie.Need-lower-of-requires
 lower-of-requires c κs =
-    let l = its-legal (c .before .before .before .before .before) in
+    let l = its-legal (c .before .before .before .before .before .before) in
     (l .four, (omega (arith, l .four, none-fails legalAt 6 _ (l .locator-legal)), l .power-legal))
 
 returns-3 : tie.Need-returns-3
 unfolding payloadOf
 returns-3 c =
     let u = c .before in
-    let e = u .before .before .before in
+    let t = u .before .before in
+    let e = t .before .before in
     let k = e .before .before in
     let a = k .before .before .before .before .before .args in
-    rw (u .upper-of .ensures, c .lower-of .ensures)
+    let l = its-legal k in
+    let third = third-of (a .callsign .now) (l .six) (l .callsign-legal) .0 in
+    rw (t .capital-of .ensures, ← third, u .upper-of .ensures, c .lower-of .ensures)
     (read-promised (a .taken) (a .callsign .now) (a .locator .now) (a .power) _
     (read-payload (a .taken) (a .callsign .now) (a .locator .now) (a .power) (is-checked k) (omega (arith, e .before .first-not-taken .ensures))))
 
@@ -101,8 +107,9 @@ read-spec =
     first-not-taken-requires
     cast-t10
     returns-2
-    shared-slice-read-t13
-    shared-slice-read-t15
+    shared-slice-read-capital-of
+    capital-of-requires
+    shared-slice-read-t16
     upper-of-requires
     lower-of-requires
     returns-3)

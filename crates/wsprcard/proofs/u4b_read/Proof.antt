@@ -18,7 +18,7 @@ returns c =
     let a = m .before .before .before .args in
     let answered = read-answered (a .callsign .now) (a .locator .now) (a .power) in
     let (result, same) = told (telemetry-in-result _ answered) (c .reading-result .ensures) (m .read .ensures .0) in
-    (result, rw same at (m .read .ensures .1 .1))
+    (result, (rw (m .read .ensures .1 .1 .0) at (c .reading-result .ensures), rw same at (m .read .ensures .1 .1 .1)))
 
 pub u4b-read-spec : {M : Type 1} → statement M
 u4b-read-spec = tie.close (tie.spec read-requires reading-result-requires returns)

@@ -18,7 +18,7 @@ returns c =
     let a = m .before .before .before .args in
     let answered = packed-answered (a .callsign .now) (a .locator .now) (a .power) in
     let (result, same) = told (word-in-result _ answered) (c .word-result .ensures) (m .pack .ensures .0) in
-    (result, rw same at (m .pack .ensures .1 .1))
+    (result, (rw (m .pack .ensures .1 .1 .0) at (c .word-result .ensures), rw same at (m .pack .ensures .1 .1 .1)))
 
 pub wspr-pack-spec : {M : Type 1} → statement M
 wspr-pack-spec = tie.close (tie.spec pack-requires word-result-requires returns)

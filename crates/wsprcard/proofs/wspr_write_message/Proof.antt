@@ -21,7 +21,8 @@ returns c =
     let a = w .before .before .before .before .before .args in
     let answered = message-answered (a .callsign .now) (a .locator .now) (a .power) (a .frame .now) in
     let (result, same) = told (write-in-result _ answered) (c .written-result .ensures) (w .write-message .ensures .0) in
-    (result, rw same at (w .write-message .ensures .1 .1))
+    let (content, (as-capitals, rest)) = w .write-message .ensures .1 .1 in
+    (result, (content, (rw as-capitals at (c .written-result .ensures), rw same at rest)))
 
 pub wspr-write-message-spec : {M : Type 1} → statement M
 wspr-write-message-spec = tie.close (tie.spec write-message-requires written-result-requires same-length returns)

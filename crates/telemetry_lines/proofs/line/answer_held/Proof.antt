@@ -25,7 +25,7 @@ answer-of-requires c κs = search needs
 
 returns : tie.Need-returns
 unfolding heldBy
-returns c = c .answer-of .ensures
+returns c = c .answer-of .ensures .0
 
 pub answer-held-spec : {M : Type 1} → statement M
 answer-held-spec =

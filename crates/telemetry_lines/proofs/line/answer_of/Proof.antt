@@ -7,7 +7,7 @@ use lib.Seq.{length-take-le}
 use borrow.Author.Tests.{not-true, not-false}
 use borrow.Author.Needs.{needs}
 use Rattle.telemetry_lines.specs.Line.{hasForm}
-use Rattle.telemetry_lines.proofs.LineLaws.{formed, answer-other, answer-formed}
+use Rattle.telemetry_lines.proofs.LineLaws.{formed, answer-other, answer-formed, line-promised}
 use Rattle.telemetry_lines.proofs.line.answer_of.Statement.{statement}
 use Rattle.telemetry_lines.proofs.line.answer_of.Tie as tie
 
@@ -15,7 +15,9 @@ has-form-requires : tie.Need-has-form-requires
 has-form-requires c κs = search needs
 
 returns : tie.Need-returns
-returns c = sym (answer-other _ (sym (c .before .has-form .ensures) ∙ not-true _ (c .if1 .taken)))
+returns c =
+    line-promised (c .before .before .before .args .line .now) _
+    (answer-other _ (sym (c .before .has-form .ensures) ∙ not-true _ (c .if1 .taken)))
 
 form : (c : tie.Else1) → hasForm (c .before .before .before .args .line .now) ≡ true
 form c = sym (c .before .has-form .ensures) ∙ not-false _ (c .if1 .left)
@@ -43,7 +45,8 @@ read-requires c κs = search needs
 returns-2 : tie.Need-returns-2
 returns-2 c =
     let test = c .before .before .before .before in
-    rw (answer-formed (test .before .before .before .args .line .now) (form test), ← c .before .power-in .ensures) (c .read .ensures .0)
+    let line = test .before .before .before .args .line .now in
+    line-promised line _ (answer-formed line (form test) ∙ sym (rw (c .before .power-in .ensures) at (c .read .ensures .0)))
 
 pub answer-of-spec : {M : Type 1} → statement M
 answer-of-spec =

@@ -7,12 +7,17 @@ use Rattle.u4b.specs.Alphabet.{takenAt}
 use Rattle.u4b.proofs.alphabet.is_taken_at.Statement.{statement}
 use Rattle.u4b.proofs.alphabet.is_taken_at.Tie as tie
 
+capital-of-requires : tie.Need-capital-of-requires
+capital-of-requires c κs = search needs
+
 is-first-character-requires : tie.Need-is-first-character-requires
 is-first-character-requires c κs = search needs
 
 returns : tie.Need-returns
 unfolding takenAt
-returns c = c .is-first-character .ensures ∙ rw (c .before .match .keys1)
+returns c =
+    let k = c .before in
+    c .is-first-character .ensures ∙ rw (k .before .match .keys1, k .capital-of .ensures)
 
 returns-2 : tie.Need-returns-2
 unfolding takenAt
@@ -35,4 +40,4 @@ returns-5 c =
 pub is-taken-at-spec : {M : Type 1} → statement M
 is-taken-at-spec =
     tie.close
-    (tie.spec is-first-character-requires returns returns-2 returns-3 returns-4 returns-5)
+    (tie.spec capital-of-requires is-first-character-requires returns returns-2 returns-3 returns-4 returns-5)
