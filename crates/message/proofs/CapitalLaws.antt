@@ -8,7 +8,7 @@ use Rattle.message.specs.Character.{capital, capitalForm, setAt, legalAt
 use Rattle.message.specs.Word.{callsignNumber, locatorNumber, wordOf}
 use Rattle.message.specs.Answer.{rightLengths, messageChecked, messagePacked, checkNumbers}
 use Rattle.message.specs.declared.CheckAnswer.{CheckAnswer}
-use Rattle.message.proofs.CharacterLaws.{capital-capital, value-capital, capital-character}
+use Rattle.message.proofs.CharacterLaws.{value-capital, capital-character}
 
 -- ---- Places
 
@@ -22,21 +22,16 @@ digit-capital place b = rw (value-capital b)
 
 -- ---- Callsigns and locators
 
--- A capital form is its own.
-pub capitals-twice : (bs : List ℕ) → capitalForm (capitalForm bs) ≡ capitalForm bs
-capitals-twice [] = refl
-capitals-twice (b ∷ bs) = rw (capital-capital b, capitals-twice bs)
-
 -- The character at a place of a capital form.
 pub getD-capitals : (bs : List ℕ) (i : ℕ) → getD (capitalForm bs) i 0 ≡ capital (getD bs i 0)
 unfolding capital
 getD-capitals bs i = List·getD-map capital bs i 0
 
-pub lengths-capitals : (callsign locator : List ℕ)
+lengths-capitals : (callsign locator : List ℕ)
     → rightLengths (length (capitalForm callsign)) (length (capitalForm locator)) ≡ rightLengths (length callsign) (length locator)
 lengths-capitals callsign locator = rw (length-map callsign capital, length-map locator capital)
 
-pub firstBad-capitals : (place : ℕ) (bs : List ℕ) → firstBad place (capitalForm bs) ≡ firstBad place bs
+firstBad-capitals : (place : ℕ) (bs : List ℕ) → firstBad place (capitalForm bs) ≡ firstBad place bs
 firstBad-capitals place bs = firstFailing-map legalAt capital legal-capital place bs
 
 pub digits-capitals : (place : ℕ) (bs : List ℕ) → digitsFrom place (capitalForm bs) ≡ digitsFrom place bs

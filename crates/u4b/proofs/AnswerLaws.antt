@@ -18,10 +18,11 @@ use Rattle.message.specs.declared.MessageAnswer.{MessageAnswer}
 use Rattle.message.proofs.AnswerLaws.{Legal, legal-of-checked, checked-nonzero, refused-no-power}
 use Rattle.message.proofs.CharacterLaws.{capital-capital, capital-space}
 use Rattle.message.proofs.CapitalLaws.{getD-capitals, digits-capitals, checked-capitals}
-use Rattle.u4b.specs.Channel.{isFirstCharacter, isThirdCharacter}
+use Rattle.u4b.specs.Channel.{isFirstCharacter, isThirdCharacter, channelOf}
 use Rattle.u4b.specs.Alphabet.{takenAt, firstNotTaken}
 use Rattle.u4b.specs.Characters.{upperDigits, upperOf, powerWith, lowerOf}
 use Rattle.u4b.specs.Answer.{payloadMessage, payloadWritten, payloadOf, payloadAlphabet, messagePayload, payloadIfLegal, payloadRead}
+use Rattle.u4b.specs.declared.channel.Channel.{Channel}
 use Rattle.u4b.specs.declared.channel.FirstCharacters.{FirstCharacters}
 use Rattle.u4b.specs.declared.alphabet.Alphabet.{Alphabet}
 use Rattle.u4b.specs.declared.Payload.{Payload}
@@ -133,10 +134,17 @@ taken-capitals alphabet callsign = firstFailing-map (takenAt alphabet) capital (
 capital-at : (i : ℕ) (bs : List ℕ) → capital (getD (capitalForm bs) i 0) ≡ capital (getD bs i 0)
 capital-at i bs = ap capital (getD-capitals bs i) ∙ capital-capital (getD bs i 0)
 
+channel-capitals : (callsign : List ℕ) → channelOf (capitalForm callsign) ≡ channelOf callsign
+channel-capitals callsign = same-channel (capital-at 0 callsign) (capital-at 2 callsign)
+  where
+    same-channel : {first third first′ third′ : ℕ} → first ≡ first′ → third ≡ third′
+        → _≡_ {A = Channel} (record { first = first; third = third }) (record { first = first′; third = third′ })
+    same-channel e f = rw (e, f)
+
 payload-capitals : (callsign locator : List ℕ) (power : ℕ) → payloadOf (capitalForm callsign) (capitalForm locator) power ≡ payloadOf callsign locator power
 unfolding payloadOf upperOf upperDigits lowerOf
 payload-capitals callsign locator power =
-    rw (capital-at 0 callsign, capital-at 2 callsign, digits-capitals 0 callsign, digits-capitals 6 locator)
+    rw (channel-capitals callsign, digits-capitals 0 callsign, digits-capitals 6 locator)
 
 pub read-capitals : (taken : FirstCharacters) (callsign locator : List ℕ) (power : ℕ)
     → payloadRead taken (capitalForm callsign) (capitalForm locator) power ≡ payloadRead taken callsign locator power
