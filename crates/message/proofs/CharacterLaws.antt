@@ -3,14 +3,16 @@ use mathlib.Core.Path.{_≡_, refl, sym, ap, _∙_, subst}
 use Prim.Native.Nat.{ℕ, zero, suc, _+_, _-_, _≤_, _<_}
 use native.Mathlib.Nat.{add-zero, add-sub-of-le, add-sub-cancel-left}
 use native.Mathlib.Omega.{arith}
-use mathlib.Core.Bool.{Bool, true, false, cond}
+use mathlib.Core.Bool.{Bool, true, false, cond, not}
 use mathlib.Core.List.{List, [], _∷_, _++_}
 use lib.Dec.{eqb, leb, ltb}
 use lib.ListN.{length, getD, List·getD-eq-default}
-use borrow.Author.Tests.{le-leb, lt-ltb, le-ltb, leb-true, ltb-true, eqb-true, ne-eqb}
+use lib.Bits.{bitAnd}
+use borrow.Author.Tests.{not-true, le-leb, lt-ltb, le-ltb, leb-true, ltb-true, eqb-true, ne-eqb}
+use Rattle.basics.specs.Test.{between}
 use Rattle.radix.specs.Numeral.{Digits}
 use Rattle.basics.proofs.Tables.{every-at, below-at}
-use Rattle.basics.proofs.Choice.{between-true, between-below, between-above, both-true, below-or-not, equal-or-not}
+use Rattle.basics.proofs.Choice.{between-true, between-below, between-above, between-range, both-true, by-test, below-or-not, equal-or-not}
 use Rattle.message.specs.Character.{capital, capitalForm, value, character, CharacterSet, callsignSets, locatorSets, setAt, legalAt, digitAt, characterAt, overPlaces, digitsFrom, charactersFrom, DigitsAt}
 use Rattle.basics.proofs.ListLaws.{AllPass}
 
@@ -40,6 +42,9 @@ capital-no-letter b c =
     below-or-not b 97 (λ h. sym (capital-before h))
     (λ h. below-or-not b 123 (λ k. absurd (omega (arith, capital-small h (omega arith)))) (λ k. sym (capital-after k)))
 
+pub capital-past-digits : (b : ℕ) → 58 ≤ b → 58 ≤ capital b
+capital-past-digits b h = below-or-not (capital b) 58 (λ k. absurd (omega (arith, capital-no-letter b (omega arith)))) (λ k. k)
+
 capital-most : (b : ℕ) → capital b ≤ b
 capital-most b =
     below-or-not b 97 (λ h. omega (arith, capital-before h))
@@ -53,6 +58,27 @@ capital-test test none b =
 
 pub capital-space : (b : ℕ) → eqb (capital b) 32 ≡ eqb b 32
 capital-space b = capital-test (λ (c : ℕ). eqb c 32) (λ c h. ne-eqb c 32 (λ e. omega arith)) b
+
+-- Without the bit of 32, in which alone a small letter differs from its capital, a byte is a capital letter exactly where its capital is
+-- one, and is then that: one test of all bytes.
+abbrev pub letterIn : ℕ → ℕ
+letterIn b = bitAnd b 0xDF
+
+foldedRight : ℕ → Bool
+unfolding capital
+foldedRight b = cond (between 65 90 (letterIn b)) (eqb (capital b) (letterIn b)) (not (between 65 90 (capital b)))
+
+folded-right : (b : ℕ) → b < 256 → foldedRight b ≡ true
+unfolding capital foldedRight
+folded-right b h = below-at foldedRight 256 refl b h
+
+pub folded-letter : (b : ℕ) → b < 256 → 65 ≤ letterIn b → letterIn b ≤ 90 → capital b ≡ letterIn b
+unfolding foldedRight
+folded-letter b h low high = eqb-true _ _ (rw (between-true 65 90 (letterIn b) low high) at (folded-right b h))
+
+pub folded-other : (b : ℕ) → b < 256 → between 65 90 (letterIn b) ≡ false → between 65 90 (capital b) ≡ false
+unfolding foldedRight
+folded-other b h e = not-true _ (rw e at (folded-right b h))
 
 -- ---- A byte's class, which is that of its capital
 
@@ -75,23 +101,9 @@ module _ (b : ℕ) where
   value-below-digits h k =
       rw (between-below 48 57 (capital b) h, between-below 65 90 (capital b) (omega arith), ne-eqb (capital b) 32 k)
 
-  pub value-below-letters : 58 ≤ capital b → capital b < 65 → value b ≡ 37
+  pub value-other : 58 ≤ capital b → between 65 90 (capital b) ≡ false → value b ≡ 37
   unfolding value
-  value-below-letters h k =
-      rw (
-        between-above 48 57 (capital b) (omega arith) (omega arith),
-        between-below 65 90 (capital b) k,
-        ne-eqb (capital b) 32 (λ e. omega arith),
-      )
-
-  pub value-above-letters : 91 ≤ capital b → value b ≡ 37
-  unfolding value
-  value-above-letters h =
-      rw (
-        between-above 48 57 (capital b) (omega arith) (omega arith),
-        between-above 65 90 (capital b) (omega arith) (omega arith),
-        ne-eqb (capital b) 32 (λ e. omega arith),
-      )
+  value-other h e = rw (between-above 48 57 (capital b) (omega arith) (omega arith), e, ne-eqb (capital b) 32 (λ s. omega arith))
 
 -- A small letter has the value of its capital, and no other byte another value than before.
 pub value-capital : (b : ℕ) → value (capital b) ≡ value b
@@ -133,9 +145,10 @@ character-value b h =
     (λ d. equal-or-not (capital b) 32 (λ e. rw (value-space b e) (character-space (omega arith) ∙ sym e))
     (λ n. absurd (omega (arith, value-below-digits b d n))))
     (λ d. below-or-not (capital b) 58 (λ e. rw (value-digit b d (omega arith)) (character-digit (omega arith) ∙ omega arith))
-    (λ e. below-or-not (capital b) 65 (λ l. absurd (omega (arith, value-below-letters b e l)))
-    (λ l. below-or-not (capital b) 91 (λ u. rw (value-letter b l (omega arith)) (character-letter (omega arith) (omega arith) ∙ omega arith))
-    (λ u. absurd (omega (arith, value-above-letters b u))))))
+    (λ e. by-test (between 65 90 (capital b))
+    (λ t. let l = between-range 65 90 (capital b) t in
+    rw (value-letter b (l .0) (l .1)) (character-letter (omega arith) (omega arith) ∙ omega arith))
+    (λ f. absurd (omega (arith, value-other b e f)))))
 
 -- ---- The sets
 
