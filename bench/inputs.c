@@ -109,13 +109,25 @@ void draw_message_of_report(inputs *in, size_t i)
                          r->gps, m->callsign, CALLSIGN, m->locator, LOCATOR).power;
 }
 
-/* Characters beside the ends of the sets, too. */
+static void make_small(uint8_t *bytes, size_t count)
+{
+    for (size_t i = 0; i < count; i++)
+        if (bytes[i] >= 'A' && bytes[i] <= 'Z')
+            bytes[i] = (uint8_t)(bytes[i] - 'A' + 'a');
+}
+
+/* Characters beside the ends of the sets, too; and one message in four is in small letters. */
 void spoil_message(inputs *in, size_t i)
 {
+    static const char spoilt[] = " /09:@AQRSXZ[`aqrsxz{\x7f\xff";
     message *m = &in->messages[i];
-    uint32_t place = below(PLACES + 1);
-    uint8_t byte = one_of(" /09:@AQRSXZ[ak\x7f\xff", 17);
+    uint32_t place = below(PLACES + 1), kind = below(4 * (sizeof spoilt - 1));
+    uint8_t byte = (uint8_t)spoilt[kind / 4];
 
+    if (kind % 4 == 0) {
+        make_small(m->callsign, CALLSIGN);
+        make_small(m->locator, LOCATOR);
+    }
     if (place < CALLSIGN)
         m->callsign[place] = byte;
     else if (place < PLACES)

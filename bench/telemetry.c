@@ -10,6 +10,12 @@ static int is_first(uint8_t byte)
     return byte == '0' || byte == '1' || byte == 'Q';
 }
 
+/* The capital of a small letter; any other byte as it is. */
+static uint8_t capital_of(uint8_t byte)
+{
+    return byte >= 'a' && byte <= 'z' ? (uint8_t)(byte - 'a' + 'A') : byte;
+}
+
 static int is_sub_square(uint8_t byte)
 {
     return byte >= 'A' && byte <= 'X';
@@ -91,12 +97,12 @@ static u4b_reading unread(uint32_t refusal, uint32_t place)
     return (u4b_reading){.refusal = refusal, .place = place};
 }
 
-/* What two numbers say that are basic telemetry's. */
-static u4b_reading reading_of(const uint8_t *callsign, uint32_t position, uint32_t sensors)
+/* What a channel and two numbers say that are basic telemetry's. */
+static u4b_reading reading_of(uint8_t first, uint8_t third, uint32_t position, uint32_t sensors)
 {
     return (u4b_reading){
-        .first = callsign[0],
-        .third = callsign[2],
+        .first = first,
+        .third = third,
         .grid5 = (uint8_t)('A' + position / (24 * 1068)),
         .grid6 = (uint8_t)('A' + position / 1068 % 24),
         .altitude = 20 * (position % 1068),
@@ -113,11 +119,13 @@ u4b_reading hand_u4b_read(const uint8_t *callsign, size_t callsign_len, const ui
     parts m;
     const uint32_t *d = m.digits;
     uint32_t position, sensors;
+    uint8_t first;
 
     take_apart(&m, callsign, callsign_len, locator, locator_len, power);
     if (m.refusal)
         return unread(m.refusal, m.place);
-    if (!is_first(callsign[0]))
+    first = capital_of(callsign[0]);
+    if (!is_first(first))
         return unread(10, 0);
     for (uint32_t place = 3; place < CALLSIGN; place++)
         if (callsign[place] == ' ')
@@ -130,5 +138,5 @@ u4b_reading hand_u4b_read(const uint8_t *callsign, size_t callsign_len, const ui
         return unread(12, 0);
     if (sensors >= SENSORS)
         return unread(13, 0);
-    return reading_of(callsign, position, sensors);
+    return reading_of(first, callsign[2], position, sensors);
 }

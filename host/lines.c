@@ -19,9 +19,15 @@ bool read_line(FILE *input, line *l)
     return true;
 }
 
-static void drop_spaces_behind(span *text)
+/* Tabs between fields count as spaces. */
+static bool is_separator(uint8_t c)
 {
-    while (text->length > 0 && text->start[text->length - 1] == ' ')
+    return c == ' ' || c == '\t';
+}
+
+static void drop_separators_behind(span *text)
+{
+    while (text->length > 0 && is_separator(text->start[text->length - 1]))
         text->length--;
 }
 
@@ -29,8 +35,8 @@ span text_of_line(const line *l)
 {
     span text = {l->bytes, l->length > LINE_KEPT ? 0 : l->length};
 
-    drop_spaces_behind(&text);
-    while (text.length > 0 && *text.start == ' ') {
+    drop_separators_behind(&text);
+    while (text.length > 0 && is_separator(*text.start)) {
         text.start++;
         text.length--;
     }
@@ -42,11 +48,11 @@ span take_last_field(span *text)
     size_t start = text->length;
     span field;
 
-    while (start > 0 && text->start[start - 1] != ' ')
+    while (start > 0 && !is_separator(text->start[start - 1]))
         start--;
     field = (span){text->start + start, text->length - start};
     text->length = start;
-    drop_spaces_behind(text);
+    drop_separators_behind(text);
     return field;
 }
 

@@ -28,10 +28,11 @@ typedef struct {
 /* Reads the next line. False where there is none: at the end of the input, and where it can't be read. */
 bool read_line(FILE *input, line *l);
 
-/* The line without the spaces around it. Of a longer line than is kept nothing: its start could pass for a line. */
+/* The line without the separators around it, which are spaces and tabs. Of a longer line than is kept nothing: its
+ * start could pass for a line. */
 span text_of_line(const line *l);
 
-/* Takes the last field off the text, and the spaces before it. It is empty where there is none. */
+/* Takes the last field off the text, and the separators before it. It is empty where there is none. */
 span take_last_field(span *text);
 
 bool is_digit(uint8_t c);

@@ -37,6 +37,8 @@ static const struct {
 
 #define MESSAGE_HELP \
     "A message is callsign, locator and power in dBm, as K1ABC FN20 37.\n"
+#define TYPED_HELP \
+    "Typed, it may have small letters, and tabs between its fields.\n"
 #define FRAME_HELP \
     "A frame is 162 digits 0 to 3, the symbols in the order in which they are sent.\n"
 #define REPAIR_HELP \
@@ -63,14 +65,15 @@ static const struct {
     const char *name, *takes, *does, *help, *last_help;
     unsigned options;
 } commands[COMMANDS] = {
-    [ENCODE] = {"encode", "[--json]", "a message to its frame", MESSAGE_HELP FRAME_HELP, "", BIT(JSON)},
+    [ENCODE] = {"encode", "[--json]", "a message to its frame", MESSAGE_HELP TYPED_HELP FRAME_HELP, "",
+                BIT(JSON)},
     [READ] = {"read", "[--json]", "a frame to its message, strictly: nothing is repaired", FRAME_HELP MESSAGE_HELP, "",
               BIT(JSON)},
     [REPAIR] = {"repair", "[--limit N] [--budget N] [--json]",
                 "a frame, damaged or not, to the one word that is nearest to it", FRAME_HELP REPAIR_HELP, COUNTS_HELP,
                 BIT(LIMIT) | BIT(BUDGET) | BIT(JSON)},
     [TELEMETRY] = {"telemetry", "[--write] [--json]", "a message to the report in it; with --write the other way",
-                   MESSAGE_HELP REPORT_HELP, "", BIT(WRITE) | BIT(JSON)},
+                   MESSAGE_HELP TYPED_HELP REPORT_HELP, "", BIT(WRITE) | BIT(JSON)},
 };
 
 /* The usage of a command, or of the program for COMMANDS. */

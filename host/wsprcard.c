@@ -54,7 +54,8 @@ static span callsign_field(span typed, uint8_t field[CALLSIGN])
     return (span){field, CALLSIGN};
 }
 
-/* A line of fewer than three fields has an empty callsign, which the card refuses. */
+/* The callsign is all that is left before the locator, so that it may hold spaces. A tab in it separates no fields and
+ * stays, for the card to refuse. A line of fewer than three fields has an empty callsign, which the card refuses. */
 static void take_message(const line *l, typed_message *m)
 {
     span text = text_of_line(l);

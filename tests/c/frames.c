@@ -1,6 +1,7 @@
 /* Writes a few frames through the C interface and strictly reads them, clean and damaged, and prints what a host sees. */
 #include <inttypes.h>
 #include <stdio.h>
+#include <string.h>
 
 #include "wsprcard.h"
 
@@ -45,6 +46,11 @@ int main(void)
 
     print_written("\" K1ABC\" FN20 37 dBm",
                   wspr_write_message((const uint8_t *)" K1ABC", 6, (const uint8_t *)"FN20", 4, 37, frame, SYMBOLS));
+    print_frame(frame);
+    read_and_print("as it was written", frame, SYMBOLS);
+    memset(frame, 0, sizeof frame);
+    print_written("\" k1abc\" fn20 37 dBm",
+                  wspr_write_message((const uint8_t *)" k1abc", 6, (const uint8_t *)"fn20", 4, 37, frame, SYMBOLS));
     print_frame(frame);
     read_and_print("as it was written", frame, SYMBOLS);
     read_and_print("its first 161 symbols", frame, SYMBOLS - 1);

@@ -15,6 +15,9 @@ static const uint32_t last_places[REFUSALS] = {[2] = 9, [7] = 161, [8] = 161, [1
 
 static const struct refusal wrong_length = {1, 0};
 
+static const char as_capitals[] = "a message is answered as its capital form is";
+static const char in_capitals[] = "what is written has capitals only";
+
 /* Which call is being held to its promises. */
 static enum export current;
 static unsigned long round_number;
@@ -60,6 +63,20 @@ static struct lent lend(struct generator *g, const struct content *c)
 static int is_unchanged(const struct lent *l)
 {
     return l->len == 0 || memcmp(l->bytes, l->before, l->len) == 0;
+}
+
+/* Whether these are the bytes that were given, with small letters as their capitals. */
+static int is_capital_form(const uint8_t *bytes, const uint8_t *given, size_t len)
+{
+    for (size_t i = 0; i < len; i++)
+        if (bytes[i] != capital_of(given[i]))
+            return 0;
+    return 1;
+}
+
+static int has_capitals_only(const struct lent *l)
+{
+    return is_capital_form(l->bytes, l->bytes, l->len);
 }
 
 /* Whether a callsign and a locator have their lengths. */
@@ -151,8 +168,23 @@ static void hold_message_of(uint64_t word, const uint8_t *callsign, const uint8_
     wspr_message m = wspr_unpack(word, own_callsign, CALLSIGN_LEN, own_locator, LOCATOR_LEN);
 
     hold(m.refusal == 0 && m.power == power, "the word is read as the message that it came from");
-    hold(memcmp(own_callsign, callsign, CALLSIGN_LEN) == 0, "the word has the message's callsign");
-    hold(memcmp(own_locator, locator, LOCATOR_LEN) == 0, "the word has the message's locator");
+    hold(is_capital_form(own_callsign, callsign, CALLSIGN_LEN), "the word has the callsign in capitals");
+    hold(is_capital_form(own_locator, locator, LOCATOR_LEN), "the word has the locator in capitals");
+}
+
+static void hold_packed_as_capitals(struct generator *g, const struct message_input *given, wspr_word w)
+{
+    struct message_input m = *given;
+    struct lent callsign, locator;
+    wspr_word same;
+
+    make_capital_form(&m);
+    callsign = lend(g, &m.callsign);
+    locator = lend(g, &m.locator);
+    same = wspr_pack(callsign.bytes, callsign.len, locator.bytes, locator.len, m.power);
+    hold(same.refusal == w.refusal && same.place == w.place && same.word == w.word, as_capitals);
+    give_back(&callsign);
+    give_back(&locator);
 }
 
 static void try_pack(struct generator *g)
@@ -174,6 +206,7 @@ static void try_pack(struct generator *g)
         hold(w.word < WORDS, "a word is below 2^50");
         hold_message_of(w.word, callsign.bytes, locator.bytes, m.power);
     }
+    hold_packed_as_capitals(g, &m, w);
     give_back(&callsign);
     give_back(&locator);
 }
@@ -197,6 +230,7 @@ static void try_unpack(struct generator *g)
         hold(m.power == 0, "a refusal's power is 0");
     } else {
         hold(is_power(m.power), "the power is one of the 19");
+        hold(has_capitals_only(&callsign) && has_capitals_only(&locator), in_capitals);
         hold_word_of(callsign.bytes, locator.bytes, m.power, word);
     }
     give_back(&callsign);
@@ -233,8 +267,28 @@ static void hold_message_in(const uint8_t *frame, const struct message_input *m)
     wspr_message back = wspr_read_message(frame, FRAME_LEN, callsign, CALLSIGN_LEN, locator, LOCATOR_LEN);
 
     hold(back.refusal == 0 && back.power == m->power, "the frame is read as the message that it was written from");
-    hold(memcmp(callsign, m->callsign.bytes, CALLSIGN_LEN) == 0, "the frame has the message's callsign");
-    hold(memcmp(locator, m->locator.bytes, LOCATOR_LEN) == 0, "the frame has the message's locator");
+    hold(is_capital_form(callsign, m->callsign.bytes, CALLSIGN_LEN), "the frame has the callsign in capitals");
+    hold(is_capital_form(locator, m->locator.bytes, LOCATOR_LEN), "the frame has the locator in capitals");
+}
+
+/* Where the frame has its length: what was written in it, or that nothing was. */
+static void hold_written_as_capitals(struct generator *g, const struct message_input *given, const struct lent *frame,
+                                     wspr_written w)
+{
+    struct message_input m = *given;
+    struct lent callsign, locator;
+    uint8_t own[FRAME_LEN];
+    wspr_written same;
+
+    make_capital_form(&m);
+    callsign = lend(g, &m.callsign);
+    locator = lend(g, &m.locator);
+    memcpy(own, frame->before, FRAME_LEN);
+    same = wspr_write_message(callsign.bytes, callsign.len, locator.bytes, locator.len, m.power, own, FRAME_LEN);
+    hold(same.refusal == w.refusal && same.place == w.place, as_capitals);
+    hold(memcmp(own, frame->bytes, FRAME_LEN) == 0, "the frame is that of the capital form");
+    give_back(&callsign);
+    give_back(&locator);
 }
 
 static void try_write_message(struct generator *g)
@@ -259,6 +313,8 @@ static void try_write_message(struct generator *g)
         hold_frame(frame.bytes);
         hold_message_in(frame.bytes, &m);
     }
+    if (frame.len == FRAME_LEN)
+        hold_written_as_capitals(g, &m, &frame, w);
     give_back(&callsign);
     give_back(&locator);
     give_back(&frame);
@@ -362,6 +418,7 @@ static void try_read_message(struct generator *g)
         hold_unchanged(&callsign, &locator);
         hold(m.power == 0, "a refusal's power is 0");
     } else {
+        hold(has_capitals_only(&callsign) && has_capitals_only(&locator), in_capitals);
         hold_message_written(&callsign, &locator, m.power, frame.bytes);
     }
     give_back(&frame);
@@ -487,13 +544,14 @@ static void try_u4b_write(struct generator *g)
         hold_unchanged(&callsign, &locator);
         hold(m.power == 0, "a refusal's power is 0");
     } else {
+        hold(has_capitals_only(&callsign) && has_capitals_only(&locator), in_capitals);
         hold_report_in(&r, &callsign, &locator, m.power);
     }
     give_back(&callsign);
     give_back(&locator);
 }
 
-/* What was read is in the ranges of reading, and is written as the same message again. */
+/* What was read is in the ranges of reading, and is written as the same message again, in capitals. */
 static void hold_reading(const struct message_input *m, u4b_reading t)
 {
     uint8_t callsign[CALLSIGN_LEN], locator[LOCATOR_LEN];
@@ -505,17 +563,17 @@ static void hold_reading(const struct message_input *m, u4b_reading t)
     hold(t.voltage >= 3000 && t.voltage <= 4950 && t.voltage % 50 == 0, "the voltage is 3,000 to 4,950 in steps of 50");
     hold(t.speed <= 82 && t.speed % 2 == 0, "the speed is 0 to 82 in steps of 2");
     hold(back.refusal == 0 && back.power == m->power, "what is read is written as the same message");
-    hold(memcmp(callsign, m->callsign.bytes, CALLSIGN_LEN) == 0, "what is read is written as the same callsign");
-    hold(memcmp(locator, m->locator.bytes, LOCATOR_LEN) == 0, "what is read is written as the same locator");
+    hold(is_capital_form(callsign, m->callsign.bytes, CALLSIGN_LEN), "what is read is written as the same callsign");
+    hold(is_capital_form(locator, m->locator.bytes, LOCATOR_LEN), "what is read is written as the same locator");
 }
 
-/* The first character that telemetry never has: it must be 0, 1 or Q, and 3 to 5 are no spaces. CALLSIGN_LEN if all
- * are telemetry's. */
+/* The first character that telemetry never has: it must be 0, 1 or Q, small or capital, and 3 to 5 are no spaces.
+ * CALLSIGN_LEN if all are telemetry's. */
 static uint32_t first_not_telemetry(const uint8_t *callsign)
 {
     uint32_t place = 3;
 
-    if (callsign[0] != '0' && callsign[0] != '1' && callsign[0] != 'Q')
+    if (callsign[0] != '0' && callsign[0] != '1' && capital_of(callsign[0]) != 'Q')
         return 0;
     while (place < CALLSIGN_LEN && callsign[place] != ' ')
         place++;
@@ -532,6 +590,21 @@ static void hold_telemetry_refusal(const struct message_input *m, uint32_t refus
         hold_refused(refusal, place, expected);
     else
         hold(refusal == 0 || refusal >= 11, "a telemetry callsign is refused 11, 12 or 13 only");
+}
+
+static void hold_read_as_capitals(struct generator *g, const struct message_input *given, u4b_reading t)
+{
+    struct message_input m = *given;
+    struct lent callsign, locator;
+    u4b_reading same;
+
+    make_capital_form(&m);
+    callsign = lend(g, &m.callsign);
+    locator = lend(g, &m.locator);
+    same = u4b_read(callsign.bytes, callsign.len, locator.bytes, locator.len, m.power);
+    hold(memcmp(&same, &t, sizeof t) == 0, as_capitals); /* the struct has no padding */
+    give_back(&callsign);
+    give_back(&locator);
 }
 
 static void try_u4b_read(struct generator *g)
@@ -553,6 +626,7 @@ static void try_u4b_read(struct generator *g)
     } else {
         hold_reading(&m, t);
     }
+    hold_read_as_capitals(g, &m, t);
     give_back(&callsign);
     give_back(&locator);
 }

@@ -69,6 +69,32 @@ static void spoil_message(struct generator *g, struct message_input *m)
         spoil_byte(g, draw_once_in(g, 2) ? &m->callsign : &m->locator);
 }
 
+/* Past R no letter is legal at places 6 and 7. */
+static void spoil_locator(struct generator *g, struct content *locator)
+{
+    uint8_t letter = (uint8_t)('S' + draw_below(g, 8));
+
+    locator->bytes[draw_below(g, 2)] = letter;
+}
+
+static void make_small(struct generator *g, struct content *c, int all)
+{
+    for (size_t i = 0; i < c->len; i++)
+        if (all || draw_once_in(g, 2))
+            c->bytes[i] = small_of(c->bytes[i]);
+}
+
+/* Half of the messages stay as they are, and of the others some have small letters only. */
+static void draw_case(struct generator *g, struct message_input *m)
+{
+    int all = draw_once_in(g, 4);
+
+    if (draw_once_in(g, 2))
+        return;
+    make_small(g, &m->callsign, all);
+    make_small(g, &m->locator, all);
+}
+
 void draw_message(struct generator *g, struct message_input *m)
 {
     draw_field(g, &m->callsign, CALLSIGN_LEN, 0);
@@ -77,9 +103,12 @@ void draw_message(struct generator *g, struct message_input *m)
     if (draw_once_in(g, 4))
         spoil_message(g, m);
     if (draw_once_in(g, 16))
+        spoil_locator(g, &m->locator);
+    if (draw_once_in(g, 16))
         draw_bytes(g, m->callsign.bytes, m->callsign.len);
     if (draw_once_in(g, 16))
         draw_bytes(g, m->locator.bytes, m->locator.len);
+    draw_case(g, m);
 }
 
 /* A channel's first character, letters for spaces, and often a number A or B near its end. */
@@ -105,6 +134,7 @@ void draw_telemetry_message(struct generator *g, struct message_input *m)
         spoil_message(g, m);
     if (draw_once_in(g, 8))
         m->callsign.bytes[3 + draw_below(g, 3)] = ' ';
+    draw_case(g, m);
 }
 
 /* A message's word, or the parts of one at and past their ends. */
@@ -232,10 +262,11 @@ static void spoil_report(struct generator *g, struct report_input *r)
     uint32_t *const numbers[] = {&r->altitude, &r->voltage, &r->speed, &r->gps};
     uint8_t *const bytes[] = {&r->first, &r->third, &r->grid5, &r->grid6};
     uint32_t edge = draw_edge(g);
+    uint8_t *byte = bytes[draw_below(g, COUNT(bytes))];
 
     switch (draw_below(g, 3)) {
-    case 0:
-        *bytes[draw_below(g, COUNT(bytes))] = (uint8_t)edge;
+    case 0: /* a small letter counts as its capital in messages only */
+        *byte = draw_once_in(g, 2) ? small_of(*byte) : (uint8_t)edge;
         break;
     case 1:
         r->temperature = temperature_edges[draw_below(g, COUNT(temperature_edges))];
@@ -264,7 +295,19 @@ int is_power(uint32_t power)
 
 static int is_character(uint8_t byte, size_t place)
 {
-    return memchr(characters[place], byte, strlen(characters[place])) != NULL;
+    return memchr(characters[place], capital_of(byte), strlen(characters[place])) != NULL;
+}
+
+static void make_capital(struct content *c)
+{
+    for (size_t i = 0; i < c->len; i++)
+        c->bytes[i] = capital_of(c->bytes[i]);
+}
+
+void make_capital_form(struct message_input *m)
+{
+    make_capital(&m->callsign);
+    make_capital(&m->locator);
 }
 
 struct refusal message_refusal(const struct message_input *m)

@@ -54,6 +54,9 @@ struct refusal {
 
 int is_power(uint32_t power);
 
+/* Small letters as their capitals. */
+void make_capital_form(struct message_input *m);
+
 /* What is to be refused of each where the lengths of other buffers are right. */
 struct refusal message_refusal(const struct message_input *m);
 struct refusal word_refusal(uint64_t word);

@@ -9,8 +9,9 @@ static const struct {
     const char *callsign, *locator;
     uint32_t power;
 } messages[] = {
-    {" K1ABC", "FN20", 37}, {"QQ2XFT", "GP99", 37}, {"0Z0AAH", "RM31", 40}, {" k1abc", "FN20", 37},
-    {"K1ABC", "FN20", 37},  {" K1ABC", "FS20", 37}, {" K1ABC", "FN20", 38},
+    {" K1ABC", "FN20", 37}, {"QQ2XFT", "GP99", 37}, {"0Z0AAH", "RM31", 40}, {" k1abc", "fn20", 37},
+    {"qQ2xFt", "Gp99", 37}, {" k1ab{", "fn20", 37}, {"K1ABC", "FN20", 37},  {" K1ABC", "FS20", 37},
+    {" k1abc", "fs20", 37}, {" K1ABC", "FN20", 38},
 };
 
 /* 2^50; the first callsign number past the end; the first locator number past the end; no power in the low bits. */

@@ -40,7 +40,7 @@ static int digit(struct generator *g)
 /* The characters that lines of messages and reports are made of, in short lines. */
 static int field_byte(struct generator *g)
 {
-    static const char bytes[] = "0123456789ABCDEFGHIJKLMNOPQRSTUVWXYZ      01Q0000-+..\r\n\n\n\n";
+    static const char bytes[] = "0123456789ABCDEFGHIJKLMNOPQRSTUVWXYZabcfgknpqrsxz      \t\t01Q0000-+..\r\n\n\n\n\n";
 
     return (unsigned char)bytes[draw_below(g, sizeof bytes - 1)];
 }

@@ -9,7 +9,7 @@
 /* Where the library writes the last number: tests/c/layout.c sees that it writes no further. */
 _Static_assert(offsetof(u4b_reading, gps) == 28 && sizeof(u4b_reading) == 32, "layout");
 
-/* Channel, sub-square, metres, tenths of a degree, millivolts, tenths of a knot, GPS. The last four are refused. */
+/* Channel, sub-square, metres, tenths of a degree, millivolts, tenths of a knot, GPS. The last six are refused. */
 static const struct {
     char first, third, grid5, grid6;
     uint32_t altitude;
@@ -20,7 +20,8 @@ static const struct {
     {'1', '7', 'A', 'A', 20, -491, 3050, 20, 0},     {'1', '7', 'A', 'A', 20, -490, 3050, 20, 0},
     {'0', '0', 'X', 'X', 21359, 399, 3999, 839, 1},  {'Q', '2', 'S', 'K', 21360, -150, 4100, 300, 1},
     {'Q', '2', 'S', 'K', 12340, -501, 4100, 300, 1}, {'Q', '2', 'S', 'K', 12340, -150, 2999, 300, 1},
-    {'Q', '2', 'Y', 'K', 12340, -150, 4100, 300, 2},
+    {'Q', '2', 'Y', 'K', 12340, -150, 4100, 300, 2}, {'q', '2', 'S', 'K', 12340, -150, 4100, 300, 1},
+    {'Q', '2', 's', 'k', 12340, -150, 4100, 300, 1},
 };
 
 static const struct {
@@ -28,8 +29,8 @@ static const struct {
     uint32_t power;
 } messages[] = {
     {"000AAA", "AA00", 3},  {"000AAA", "AA00", 0},  {"0Z0AAI", "RM31", 33}, {"0Z0AAH", "RM31", 40},
-    {" K1ABC", "FN20", 37}, {"QQ2XF ", "GP99", 60}, {"QQ2XFT", "GP99", 61}, {"QQ2XFT", "gp99", 60},
-    {"QQ2XFT", "GP9", 60},
+    {" K1ABC", "FN20", 37}, {"QQ2XF ", "GP99", 60}, {"QQ2XFT", "GP99", 61}, {"qq2xft", "gp99", 60},
+    {"qq2xft", "sp99", 60}, {"0z0aai", "rm31", 33}, {"QQ2XFT", "GP9", 60},
 };
 
 static void read_and_print(const uint8_t *callsign, size_t callsign_len, const uint8_t *locator, size_t locator_len,

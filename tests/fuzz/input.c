@@ -130,6 +130,25 @@ static void spoil_message(struct input *in, struct message *m, int faults)
     }
 }
 
+/* The letters at these places, a bit each, made small. */
+static void make_small(struct content *c, uint64_t places)
+{
+    for (size_t i = 0; i < c->len; i++, places >>= 1)
+        if (places & 1)
+            c->bytes[i] = small_of(c->bytes[i]);
+}
+
+/* Letters as they are, all of them small, or those at some places. */
+static void take_case(struct input *in, struct message *m)
+{
+    uint8_t kind = take(in);
+    uint64_t places = kind < 128 ? 0 : kind < 192 ? UINT64_MAX : take_number(in, 2);
+
+    make_small(&m->callsign, places);
+    make_small(&m->locator, places >> CALLSIGN_LEN);
+}
+
+/* Once in eight times any bytes, once some of them, and once a letter past R at place 6 or 7. */
 void take_message(struct input *in, struct message *m)
 {
     uint8_t shape = take(in);
@@ -138,6 +157,9 @@ void take_message(struct input *in, struct message *m)
     take_field(in, &m->locator, LOCATOR_LEN, CALLSIGN_LEN, shape % 8 == 0);
     m->power = take_power(in);
     spoil_message(in, m, shape % 8 == 1 ? 1 + (shape >> 6) : 0);
+    if (shape % 8 == 2)
+        m->locator.bytes[shape >> 7] = (uint8_t)('S' + take(in) % 8);
+    take_case(in, m);
 }
 
 /* Numbers A and B anywhere in a message's room; B's last digit is the power's index. */
@@ -167,6 +189,7 @@ void take_telemetry_message(struct input *in, struct message *m)
     if (shape & 1)
         take_numbers(in, m);
     spoil_message(in, m, (shape & 6) == 6 ? 1 + (shape >> 7) : 0);
+    take_case(in, m);
 }
 
 /* Mostly data bits are turned over; also sync bits, both, and symbols above 3 put in. */

@@ -8,11 +8,24 @@ use crate::rng::Rng;
 
 pub fn random_message(rng: &mut Rng) -> Message {
     let characters = random_characters(rng);
+    message_of(&characters, rng.pick(&POWERS))
+}
+
+/// The message of ten characters, of which the first six are the callsign.
+pub fn message_of(characters: &[u8; 10], power: u32) -> Message {
     Message {
         callsign: characters[..6].try_into().unwrap(),
         locator: characters[6..].try_into().unwrap(),
-        power: rng.pick(&POWERS),
+        power,
     }
+}
+
+/// The ten characters of a message.
+pub fn characters_of(message: &Message) -> [u8; 10] {
+    let mut characters = [0; 10];
+    characters[..6].copy_from_slice(&message.callsign);
+    characters[6..].copy_from_slice(&message.locator);
+    characters
 }
 
 pub fn random_characters(rng: &mut Rng) -> [u8; 10] {
@@ -24,6 +37,45 @@ pub fn legal_bytes(rng: &mut Rng, first_place: usize, len: usize) -> Vec<u8> {
     (0..len).map(|index| rng.pick(CHARACTERS[(first_place + index) % 10])).collect()
 }
 
+/// The capital form of ten characters, by the standard library's rule and not by the reference's.
+pub fn capital_form(mut characters: [u8; 10]) -> [u8; 10] {
+    characters.make_ascii_uppercase();
+    characters
+}
+
+/// Makes letters small: all of them once in four times, else each by a coin.
+pub fn recase(rng: &mut Rng, characters: &mut [u8]) {
+    let all = rng.below(4) == 0;
+    for character in characters {
+        if all || rng.coin() {
+            character.make_ascii_lowercase();
+        }
+    }
+}
+
+/// The message with its letters in any case.
+pub fn message_in_any_case(rng: &mut Rng, message: &Message) -> Message {
+    let mut characters = characters_of(message);
+    recase(rng, &mut characters);
+    message_of(&characters, message.power)
+}
+
+/// The message with all letters small.
+pub fn message_in_small_letters(message: &Message) -> Message {
+    let mut characters = characters_of(message);
+    characters.make_ascii_lowercase();
+    message_of(&characters, message.power)
+}
+
+/// Whether a byte is legal at a place: a small letter is where its capital is.
+pub fn is_legal(place: usize, byte: u8) -> bool {
+    CHARACTERS[place].contains(&byte.to_ascii_uppercase())
+}
+
+/// How many bytes are legal at all ten places together: digits, capitals, spaces, and small letters
+/// at places 0, 1, 3 to 5 (a to z) and 6 and 7 (a to r).
+pub const LEGAL_BYTES: u64 = (37 + 36 + 10 + 3 * 27 + 2 * 18 + 2 * 10) + (5 * 26 + 2 * 18);
+
 /// Puts a character that is refused at one place of the field, if it has any.
 pub fn spoil(rng: &mut Rng, field: &mut [u8], first_place: usize) {
     if !field.is_empty() {
@@ -34,7 +86,7 @@ pub fn spoil(rng: &mut Rng, field: &mut [u8], first_place: usize) {
 
 pub fn bad_character(rng: &mut Rng, place: usize) -> u8 {
     let mut character = rng.byte();
-    while CHARACTERS[place].contains(&character) {
+    while is_legal(place, character) {
         character = rng.byte();
     }
     character

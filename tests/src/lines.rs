@@ -1,6 +1,6 @@
 // Lines as the programs take them: messages as they are shown and as people type them, frames,
 // reports, and what damage makes of them.
-use crate::inputs::{random_message, random_telemetry};
+use crate::inputs::{message_in_any_case, random_message, random_telemetry, recase};
 use crate::reference::message::{Message, CALLSIGN_LEN, LOCATOR_LEN};
 use crate::reference::telemetry::{self, Telemetry};
 use crate::rng::Rng;
@@ -30,9 +30,14 @@ pub fn telemetry_line(rng: &mut Rng) -> Vec<u8> {
     message_line(&telemetry::write(&telemetry, CALLSIGN_LEN, LOCATOR_LEN).unwrap())
 }
 
-/// A message with a byte or two changed; now and then it is as it was.
+/// A message with a byte or two changed, its letters capitals or in any case; now and then it is as
+/// it was.
 pub fn damaged_message_line(rng: &mut Rng) -> Vec<u8> {
-    let line = if rng.coin() { telemetry_line(rng) } else { message_line(&random_message(rng)) };
+    let mut line =
+        if rng.coin() { telemetry_line(rng) } else { message_line(&random_message(rng)) };
+    if rng.coin() {
+        recase(rng, &mut line);
+    }
     damaged(rng, line)
 }
 
@@ -43,8 +48,8 @@ pub fn damaged(rng: &mut Rng, mut line: Vec<u8>) -> Vec<u8> {
         let other = rng.below(line.len() as u64) as usize;
         match rng.below(5) {
             0 => line[place] = rng.byte(),
-            1 => line[place] = rng.pick(b" 0123456789AQRSXYZaqrxz\r\0"),
-            2 => line.insert(place, rng.pick(b" 0A")),
+            1 => line[place] = rng.pick(b" 0123456789AQRSXYZaqrsxz`{\t\r\0"),
+            2 => line.insert(place, rng.pick(b" \t0Aa")),
             3 => drop(line.remove(place)),
             _ => line.swap(place, other),
         }
@@ -52,12 +57,13 @@ pub fn damaged(rng: &mut Rng, mut line: Vec<u8>) -> Vec<u8> {
     line
 }
 
-/// The fields with one space or more between them, and with spaces around them or none.
+/// The fields with one separator or more between them, spaces and some tabs, and with separators
+/// around them or none.
 pub fn spaced(rng: &mut Rng, fields: &[&[u8]]) -> Vec<u8> {
-    let mut line = vec![b' '; rng.below(3) as usize];
+    let mut line = separators(rng, 0);
     for field in fields {
         line.extend_from_slice(field);
-        line.resize(line.len() + rng.between(1, 3) as usize, b' ');
+        line.extend(separators(rng, 1));
     }
     if rng.coin() {
         line.truncate(line.trim_ascii_end().len());
@@ -65,12 +71,20 @@ pub fn spaced(rng: &mut Rng, fields: &[&[u8]]) -> Vec<u8> {
     line
 }
 
-/// A message as people type it: only the callsign's own characters, the power without a zero in
-/// front or with some.
+/// So many spaces and tabs at least, and up to two more.
+fn separators(rng: &mut Rng, at_least: u64) -> Vec<u8> {
+    let count = rng.between(at_least, at_least + 2);
+    (0..count).map(|_| rng.pick(b"   \t")).collect()
+}
+
+/// A message as people type it: only the callsign's own characters, letters in any case or as
+/// capitals, the power without a zero in front or with some.
 pub fn typed_message(rng: &mut Rng, message: &Message) -> Vec<u8> {
     let zeros = "0".repeat(rng.below(3) as usize);
     let power = format!("{zeros}{}", message.power);
-    spaced(rng, &[message.callsign.trim_ascii(), &message.locator, power.as_bytes()])
+    let Message { callsign, locator, .. } =
+        if rng.coin() { message_in_any_case(rng, message) } else { *message };
+    spaced(rng, &[callsign.trim_ascii(), &locator, power.as_bytes()])
 }
 
 /// The digits of a frame's symbols.

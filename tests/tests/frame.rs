@@ -6,14 +6,15 @@ use wsprcard_tests::answers::{
 use wsprcard_tests::card;
 use wsprcard_tests::counts::Counts;
 use wsprcard_tests::inputs::{
-    bad_character, bad_power, bad_symbol, bad_word, edge_words, field_lengths, legal_bytes,
+    bad_character, bad_power, bad_symbol, bad_word, capital_form, edge_words, field_lengths,
+    is_legal, legal_bytes, message_in_any_case, message_in_small_letters, message_of,
     random_characters, random_frame, random_legal_word, random_message, random_places, random_word,
-    resized, spoil, wrong_lengths,
+    recase, resized, spoil, wrong_lengths, LEGAL_BYTES,
 };
 use wsprcard_tests::lent::Lent;
 use wsprcard_tests::reference::frame::{self as reference, CLOCKED, FRAME_LEN};
 use wsprcard_tests::reference::message::{
-    self, Message, CALLSIGNS, CALLSIGN_LEN, CHARACTERS, LOCATORS, LOCATOR_LEN, POWERS, WORDS,
+    self, Message, CALLSIGNS, CALLSIGN_LEN, LOCATORS, LOCATOR_LEN, POWERS, WORDS,
 };
 use wsprcard_tests::rng::Rng;
 use wsprcard_tests::vectors::{self, Vector};
@@ -211,15 +212,18 @@ fn frames_are_those_of_wsjtx() {
     for Vector { message, word, frame } in vectors::wsjtx() {
         assert_eq!(frame_of(word), frame, "{word:#x}");
         assert_eq!(frame_of_message(&message), frame, "{message:?}");
+        let small = message_in_small_letters(&message);
+        assert_eq!(frame_of_message(&small), frame, "{small:?}");
         assert_eq!(message_in(&frame), message, "{message:?}");
         check.write_word(word);
         check.write_message(&message);
+        check.write_message(&small);
         assert_eq!(check.read_word(&frame), read(word), "{message:?}");
         check.read_message(&frame);
     }
     check.finish(&[
         ("write_word", 0, 39),
-        ("write_message", 0, 39),
+        ("write_message", 0, 2 * 39),
         ("read_word", 0, 39),
         ("read_message", 0, 39),
     ]);
@@ -231,6 +235,7 @@ fn the_bench_sheet_holds() {
     let message = Message { callsign: *b" K1ABC", locator: *b"FN20", power: 37 };
     let word = 259_047_992 * 4_194_304 + 2_942_821;
     assert_eq!(frame_of_message(&message), frame_of(word));
+    assert_eq!(frame_of_message(&message_of(b" k1abcfn20", 37)), frame_of(word));
     for len in [0, 161, 163] {
         let symbols = resized(&mut check.rng, &frame_of(word), len);
         assert_eq!(check.read_word(&symbols), refused_word(1, 0), "{len} symbols");
@@ -239,7 +244,7 @@ fn the_bench_sheet_holds() {
         let found = check.write_message_into(b" K1ABC", b"FN20", 37, len);
         assert_eq!(found, refused(1, 0), "{len} symbols");
     }
-    assert_eq!(check.write_characters(b" k1abcFN20", 37), refused(2, 1));
+    assert_eq!(check.write_characters(b" k1abcfs20", 37), refused(2, 7));
     check.finish(&[
         ("write_word", 1, 3),
         ("write_message", 1, 3),
@@ -729,25 +734,79 @@ fn random_messages_are_written_and_read_back() {
 #[test]
 fn every_byte_at_every_place_is_written_or_refused() {
     let mut check = Check::new(26);
-    for (place, legal) in CHARACTERS.iter().enumerate() {
+    for place in 0..10 {
         for byte in 0..=255 {
             for turn in 0..6 {
                 let mut characters = random_characters(&mut check.rng);
+                if turn % 2 == 1 {
+                    recase(&mut check.rng, &mut characters);
+                }
                 characters[place] = byte;
                 let power =
                     if turn % 3 == 2 { bad_power(&mut check.rng) } else { check.rng.pick(&POWERS) };
                 let found = check.write_characters(&characters, power);
-                if !legal.contains(&byte) {
+                assert_written_as_capitals(&characters, power);
+                if !is_legal(place, byte) {
                     assert_eq!(found, refused(2, place as u32), "{characters:?}");
                 }
             }
         }
     }
-    let legal = CHARACTERS.iter().map(|legal| legal.len() as u64).sum::<u64>();
     check.finish(&[
-        ("write_message", 0, legal * 4),
-        ("write_message", 2, (2560 - legal) * 6),
-        ("write_message", 3, legal * 2),
+        ("write_message", 0, LEGAL_BYTES * 4),
+        ("write_message", 2, (2560 - LEGAL_BYTES) * 6),
+        ("write_message", 3, LEGAL_BYTES * 2),
+    ]);
+}
+
+/// By the library alone: the answer to ten characters and the frame are those of the capital form.
+fn assert_written_as_capitals(characters: &[u8; 10], power: u32) {
+    let capitals = capital_form(*characters);
+    let [found, expected] = [characters, &capitals].map(|characters| {
+        let mut frame = [255; FRAME_LEN];
+        let written = card::write_message(&characters[..6], &characters[6..], power, &mut frame);
+        (written, frame)
+    });
+    assert_eq!(found, expected, "{} {power}", characters.escape_ascii());
+}
+
+#[test]
+fn messages_in_any_case_are_written_as_their_capital_form() {
+    let mut check = Check::new(40);
+    for _ in 0..40_000 {
+        let message = random_message(&mut check.rng);
+        let in_any_case = message_in_any_case(&mut check.rng, &message);
+        for typed in [in_any_case, message_in_small_letters(&message)] {
+            assert_eq!(check.write_message(&typed), WRITTEN, "{typed:?}");
+            let frame = frame_of_message(&typed);
+            assert_eq!(frame, frame_of_message(&message), "{typed:?}");
+            assert_eq!(message_in(&frame), message, "{typed:?}");
+        }
+    }
+    check.finish(&[("write_message", 0, 2 * 40_000)]);
+}
+
+/// Bad characters and powers and both, the letters in any case.
+#[test]
+fn refusals_of_messages_in_any_case_are_those_of_their_capital_form() {
+    let mut check = Check::new(41);
+    for turn in 0..40_000 {
+        let mut characters = random_characters(&mut check.rng);
+        if turn & 1 != 0 {
+            spoil(&mut check.rng, &mut characters, 0);
+        }
+        if turn & 2 != 0 {
+            spoil(&mut check.rng, &mut characters, 0);
+        }
+        let power = if turn & 4 != 0 { bad_power(&mut check.rng) } else { check.rng.pick(&POWERS) };
+        recase(&mut check.rng, &mut characters);
+        check.write_characters(&characters, power);
+        assert_written_as_capitals(&characters, power);
+    }
+    check.finish(&[
+        ("write_message", 0, 5_000),
+        ("write_message", 2, 30_000),
+        ("write_message", 3, 5_000),
     ]);
 }
 

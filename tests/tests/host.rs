@@ -16,7 +16,7 @@ use wsprcard_tests::counts::Counts;
 use wsprcard_tests::facts::CLEAN;
 use wsprcard_tests::inputs::{
     bad_word, flipped, noise, random_legal_word, random_message, random_places, random_telemetry,
-    resized, spoil_sync, spoil_telemetry,
+    recase, resized, spoil_sync, spoil_telemetry,
 };
 use wsprcard_tests::json::{self, Value};
 use wsprcard_tests::lines::{
@@ -40,6 +40,10 @@ const COMMANDS: [&[&str]; 5] =
 const MESSAGE: &[u8] = b"K1ABC FN20 37";
 const TELEMETRY: &[u8] = b"QQ2XFT GP99 60";
 const REPORT: &[u8] = b"Q2 SK 12340 -15 4100 30 1";
+
+/// The same message and telemetry message in small letters.
+const SMALL_MESSAGE: &[u8] = b"k1abc fn20 37";
+const SMALL_TELEMETRY: &[u8] = b"qq2xft gp99 60";
 
 /// How long an answer may take while the input stays open.
 const AT_ONCE: Duration = Duration::from_secs(10);
@@ -69,6 +73,11 @@ fn right_line(arguments: &[&str]) -> Vec<u8> {
 /// Whether the command's lines are frames.
 fn takes_frames(arguments: &[&str]) -> bool {
     matches!(call(arguments).command, Command::Read | Command::Repair { .. })
+}
+
+/// Whether the command's lines are messages.
+fn takes_messages(arguments: &[&str]) -> bool {
+    matches!(call(arguments).command, Command::Encode | Command::Telemetry)
 }
 
 /// The word of a message that is shown in 14 characters.
@@ -417,6 +426,8 @@ fn the_reasons_are_those_of_the_manual_page() {
 const FORM: &str =
     "1 0: the line isn't a callsign of up to 6 characters, a locator of 4 and a power";
 
+const REPORT_FORM: &str = "1 0: the line isn't a report of 7 fields";
+
 const REFUSED_MESSAGES: &[(&str, &str)] = &[
     ("K1ABC FN20", FORM),
     ("K1ABCDE FN20 37", FORM),
@@ -425,13 +436,16 @@ const REFUSED_MESSAGES: &[(&str, &str)] = &[
     ("", FORM),
     ("!A1ABC FN20 37", "2 0: the callsign's character isn't 0 to 9, A to Z or a space"),
     ("A!1ABC FN20 37", "2 1: the callsign's character isn't 0 to 9 or A to Z"),
-    ("k1abc FN20 37", "2 1: the callsign's character isn't 0 to 9 or A to Z"),
+    ("k{ fn20 37", "2 1: the callsign's character isn't 0 to 9 or A to Z"),
     ("AA!ABC FN20 37", "2 2: the callsign's character isn't 0 to 9"),
     ("AA1!BC FN20 37", "2 3: the callsign's character isn't A to Z or a space"),
     ("AA1A!C FN20 37", "2 4: the callsign's character isn't A to Z or a space"),
     ("AA1AB! FN20 37", "2 5: the callsign's character isn't A to Z or a space"),
+    ("k1ab` fn20 37", "2 5: the callsign's character isn't A to Z or a space"),
     ("AA1ABC SN20 37", "2 6: the locator's character isn't A to R"),
-    ("AA1ABC Fn20 37", "2 7: the locator's character isn't A to R"),
+    ("aa1abc sn20 37", "2 6: the locator's character isn't A to R"),
+    ("AA1ABC Fs20 37", "2 7: the locator's character isn't A to R"),
+    ("aa1abc fna0 37", "2 8: the locator's character isn't 0 to 9"),
     ("AA1ABC FNA0 37", "2 8: the locator's character isn't 0 to 9"),
     ("AA1ABC FN2: 99", "2 9: the locator's character isn't 0 to 9"),
     ("AA1ABC FN20 38", "3 0: the power isn't one of the 19"),
@@ -440,28 +454,35 @@ const REFUSED_MESSAGES: &[(&str, &str)] = &[
 
 const REFUSED_TELEMETRY: &[(&str, &str)] = &[
     ("QQ2XFT GP99", FORM),
-    ("qQ2XFT GP99 60", "2 0: the callsign's character isn't 0 to 9, A to Z or a space"),
+    ("!Q2XFT GP99 60", "2 0: the callsign's character isn't 0 to 9, A to Z or a space"),
     ("QQ2XFT GP99 61", "3 0: the power isn't one of the 19"),
     ("K1ABC FN20 37", "10 0: the first character isn't 0, 1 or Q"),
+    ("k1abc fn20 37", "10 0: the first character isn't 0, 1 or Q"),
     ("QQ2 FT GP99 60", "10 3: a space stands where telemetry has a letter"),
     ("QQ2X T GP99 60", "10 4: a space stands where telemetry has a letter"),
     ("QQ2XF GP99 60", "10 5: a space stands where telemetry has a letter"),
+    ("qq2xf gp99 60", "10 5: a space stands where telemetry has a letter"),
     ("000AAA AA00 00", "11 0: extended telemetry"),
+    ("000aaa aa00 00", "11 0: extended telemetry"),
     ("0Z0AAI RM31 33", "12 0: the number of sub-square and altitude is 615168 or more"),
+    ("0z0aai rm31 33", "12 0: the number of sub-square and altitude is 615168 or more"),
     ("0Z0AAH RM31 40", "13 0: the number of temperature, voltage, speed and GPS is 604800 or more"),
+    ("0z0aah rm31 40", "13 0: the number of temperature, voltage, speed and GPS is 604800 or more"),
 ];
 
 const REFUSED_REPORTS: &[(&str, &str)] = &[
-    ("Q2 SK 12340 -15 4100 30", "1 0: the line isn't a report of 7 fields"),
-    ("Q2 SK 12340 -15 4100 30 1 1", "1 0: the line isn't a report of 7 fields"),
-    ("", "1 0: the line isn't a report of 7 fields"),
+    ("Q2 SK 12340 -15 4100 30", REPORT_FORM),
+    ("Q2 SK 12340 -15 4100 30 1 1", REPORT_FORM),
+    ("", REPORT_FORM),
     ("22 SK 0 0 3000 0 0", "14 0: the channel's first character isn't 0, 1 or Q"),
     ("Q SK 0 0 3000 0 0", "14 0: the channel's first character isn't 0, 1 or Q"),
     ("Q22 SK 0 0 3000 0 0", "14 0: the channel's first character isn't 0, 1 or Q"),
+    ("q2 SK 0 0 3000 0 0", "14 0: the channel's first character isn't 0, 1 or Q"),
     ("QQ SK 0 0 3000 0 0", "14 1: the channel's third character isn't 0 to 9"),
     ("Q2 YK 0 0 3000 0 0", "14 2: the sub-square's first letter isn't A to X"),
     ("Q2 S 0 0 3000 0 0", "14 2: the sub-square's first letter isn't A to X"),
     ("Q2 SKX 0 0 3000 0 0", "14 2: the sub-square's first letter isn't A to X"),
+    ("Q2 sk 0 0 3000 0 0", "14 2: the sub-square's first letter isn't A to X"),
     ("Q2 Sk 0 0 3000 0 0", "14 3: the sub-square's second letter isn't A to X"),
     ("Q2 SK 21360 0 3000 0 0", "14 4: the altitude isn't 0 to 21359 metres"),
     ("Q2 SK 0.0 0 3000 0 0", "14 4: the altitude isn't 0 to 21359 metres"),
@@ -673,7 +694,7 @@ fn a_line_that_is_cut_off_is_refused_whatever_it_holds() {
         let right = right_line(arguments);
         let long = [&right, &b" ".repeat(300)[..]].concat();
         for line in
-            [&right[..], &long, b"0K0AAU AM36 3", b" ", b"\r", b"x", b"\0", b"k1abc FN20 37"]
+            [&right[..], &long, b"0K0AAU AM36 3", b" ", b"\t", b"\r", b"x", b"\0", b"k!abc FN20 37"]
         {
             let ended = wsprcard(arguments).run(line);
             assert_eq!(String::from_utf8_lossy(&ended.stdout), CUT_OFF, "{arguments:?}");
@@ -798,17 +819,22 @@ const SEEN_OF_BYTES: &[Seen] = &[
 fn every_byte_at_every_place_is_answered() {
     let mut counts = Counts::new();
     for arguments in COMMANDS {
-        let shown: &[u8] = b" K1ABC FN20 37";
-        let lines = match arguments {
-            ["encode"] => vec![MESSAGE.to_vec(), shown.to_vec(), TELEMETRY.to_vec()],
-            ["telemetry", "--write"] => vec![REPORT.to_vec(), b"02 AX 0 +0.9 3000 0.0 0".to_vec()],
-            _ => vec![right_line(arguments)],
+        let frame = frame_line(&frame_of(word_of_line(TELEMETRY)));
+        let lines: Vec<&[u8]> = match arguments {
+            ["encode"] => {
+                vec![MESSAGE, b" K1ABC FN20 37", TELEMETRY, SMALL_MESSAGE, SMALL_TELEMETRY]
+            }
+            ["telemetry"] => vec![TELEMETRY, SMALL_TELEMETRY, b"qq2xft\tgp99\t60"],
+            ["telemetry", "--write"] => {
+                vec![REPORT, b"02 AX 0 +0.9 3000 0.0 0", b"\tQ2\tSK 12340 \t-15 4100\t 30\t1\t"]
+            }
+            _ => vec![&frame],
         };
         let mut input = Vec::new();
         for line in lines {
             for place in 0..line.len() {
                 for byte in 0..=255 {
-                    let mut line = line.clone();
+                    let mut line = line.to_vec();
                     line[place] = byte;
                     input.extend(joined([line]));
                 }
@@ -856,15 +882,15 @@ const SEEN_OF_CALLSIGNS: &[Seen] = &[
     ("telemetry", 10, 100),
 ];
 
-/// Every callsign of one to seven characters, each a letter, a digit, a space or a small letter,
-/// as far as the first and the last aren't spaces: those would be spaces between fields.
+/// Every callsign of one to seven characters, each a letter, a digit, a space, a small letter or a
+/// tab, as far as the first and the last aren't spaces or tabs: those would be between fields.
 #[test]
 fn callsigns_of_every_shape_are_answered() {
     let mut rng = Rng::new(2);
     let mut lines = Vec::new();
     for len in 1..=7 {
-        for shape in 0..4_usize.pow(len) {
-            let character = |place| b"Q1 q"[shape / 4_usize.pow(place) % 4];
+        for shape in 0..5_usize.pow(len) {
+            let character = |place| b"Q1 q\t"[shape / 5_usize.pow(place) % 5];
             let callsign: Vec<u8> = (0..len).map(character).collect();
             lines.push([&callsign, &b" GP99 60"[..]].concat());
             lines.push(spaced(&mut rng, &[&callsign, b"AA00", b"3"]));
@@ -900,17 +926,182 @@ fn callsigns_are_put_into_their_field() {
         ("  K1ABC   FN20 37  ", " K1ABC"),
         (" K1ABC FN20 37", " K1ABC"),
         (" K1    FN20 37", " K1   "),
+        ("k1abc fn20 37", " K1ABC"),
+        ("K1aBc Fn20 37", " K1ABC"),
+        ("k1 b fn20 37", " K1 B "),
+        ("ka1b fn20 37", "KA1B  "),
+        (" \tK1ABC \t FN20\t37\t", " K1ABC"),
+        ("\t\tka1bcd\tfn20\t\t037", "KA1BCD"),
+        ("KA1\t FN20 37", "KA1   "),
     ] {
         let ended = wsprcard(&["encode", "--json"]).run(&joined([typed]));
         let found = String::from_utf8_lossy(&ended.stdout);
         let start = format!(r#"{{"callsign":"{field}","locator":"FN20","power":37,"#);
         assert!(found.starts_with(&start), "{typed}: {found}");
     }
-    for typed in
-        ["K1A  BC FN20 37", "KA1ABCD FN20 37", "K   1AB FN20 37", "FN20 37", "K1ABCFN20 37"]
-    {
+    for typed in [
+        "K1A  BC FN20 37",
+        "KA1ABCD FN20 37",
+        "K   1AB FN20 37",
+        "FN20 37",
+        "K1ABCFN20 37",
+        "\tFN20\t37",
+    ] {
         let stdout = wsprcard(&["encode"]).run(&joined([typed])).stdout;
         assert!(stdout.starts_with(b"refused 1 0: the line"), "{typed}");
+    }
+}
+
+// Small letters and tabs
+
+/// What WSJT-X prints for the manual page's message: its frame.
+fn frame_of_wsjtx() -> String {
+    let message = Message { callsign: *b" K1ABC", locator: *b"FN20", power: 37 };
+    let vector = vectors::wsjtx().into_iter().find(|vector| vector.message == message).unwrap();
+    String::from_utf8(frame_line(&vector.frame)).unwrap()
+}
+
+/// Lines that are the manual page's message, telemetry message and report, but for small letters
+/// and tabs. The answers are those that the page shows, and the frame is that of WSJT-X.
+#[test]
+fn small_letters_and_tabs_between_fields_are_taken() {
+    let frame = frame_of_wsjtx();
+    let in_json = format!(
+        r#"{{"callsign":" K1ABC","locator":"FN20","power":37,"word":"3dc308e2ce765","frame":"{frame}"}}"#
+    );
+    for line in [
+        "k1abc fn20 37",
+        "k1abc FN20 37",
+        "K1ABC fn20 37",
+        "K1aBc fN20 37",
+        "K1ABC\tFN20\t37",
+        " \tK1ABC \t FN20\t37\t",
+        "\t\tk1abc\t\tfn20\t\t37\t\t",
+        "\tk1abc fn20 037 \t\r",
+    ] {
+        assert_answer(&["encode"], line.as_bytes(), &frame);
+        assert_answer(&["encode", "--json"], line.as_bytes(), &in_json);
+    }
+    let in_json = r#"{"channel":"Q2","subsquare":"SK","altitude":12340,"temperature":-15,"voltage":4100,"speed":30,"gps":1}"#;
+    for line in [
+        "qq2xft gp99 60",
+        "qQ2XFT GP99 60",
+        "QQ2xFt gP99 60",
+        "qq2xft\tgp99\t60",
+        "\t QQ2XFT\t \tGP99 60 \t",
+    ] {
+        assert_answer(&["telemetry"], line.as_bytes(), "Q2 SK 12340 -15 4100 30 1");
+        assert_answer(&["telemetry", "--json"], line.as_bytes(), in_json);
+    }
+    let in_json = r#"{"callsign":"QQ2XFT","locator":"GP99","power":60}"#;
+    for line in ["Q2\tSK\t12340\t-15\t4100\t30\t1", "\t Q2 \tSK\t 12340 -15.0\t\t4100 30 1 \t"] {
+        assert_answer(&["telemetry", "--write"], line.as_bytes(), "QQ2XFT GP99 60");
+        assert_answer(&["telemetry", "--write", "--json"], line.as_bytes(), in_json);
+    }
+}
+
+/// Tabs that aren't between fields, worked out by hand. The callsign is all before the locator, and
+/// a tab in it is no space; its place is that in the field of six. In a report a tab ends a field.
+#[test]
+fn tabs_that_are_not_between_fields_are_refused() {
+    for (arguments, line, refused) in [
+        (COMMANDS[0], "K\t1ABC FN20 37", "2 1: the callsign's character isn't 0 to 9 or A to Z"),
+        (COMMANDS[0], "K1\tABC FN20 37", "2 2: the callsign's character isn't 0 to 9"),
+        (COMMANDS[0], "KA1\tBC FN20 37", "2 3: the callsign's character isn't A to Z or a space"),
+        (COMMANDS[0], "k1a\tc fn20 37", "2 4: the callsign's character isn't A to Z or a space"),
+        (COMMANDS[0], "KA1B\tC\tFN20\t37", "2 4: the callsign's character isn't A to Z or a space"),
+        (COMMANDS[0], "K1ABC\tD FN20 37", FORM),
+        (COMMANDS[0], "K1ABC FN\t20 37", FORM),
+        (COMMANDS[0], "K1ABC FN20 3\t7", FORM),
+        (COMMANDS[0], "\t", FORM),
+        (COMMANDS[3], "q\t2xft gp99 60", "2 1: the callsign's character isn't 0 to 9 or A to Z"),
+        (COMMANDS[3], "QQ2X\tT GP99 60", "2 4: the callsign's character isn't A to Z or a space"),
+        (COMMANDS[4], "Q\t2 SK 12340 -15 4100 30 1", REPORT_FORM),
+        (COMMANDS[4], "Q2 SK 123\t40 -15 4100 30 1", REPORT_FORM),
+        (COMMANDS[4], "Q2\tSK\t12340\t-15\t4100\t30", REPORT_FORM),
+        (COMMANDS[4], "\t", REPORT_FORM),
+    ] {
+        assert_answer(arguments, line.as_bytes(), &format!("refused {refused}"));
+    }
+}
+
+/// A vertical tab, a form feed, a no-break space and a zero byte separate nothing. This holds what
+/// tabs don't change, so that it held before them too; the next test as well.
+#[test]
+fn other_blanks_are_no_separators() {
+    for blank in ["\u{b}", "\u{c}", "\u{a0}", "\0"] {
+        for arguments in [COMMANDS[0], COMMANDS[3]] {
+            let line = format!("KA1ABC{blank}FN20 37");
+            assert_answer(arguments, line.as_bytes(), &format!("refused {FORM}"));
+        }
+        let line = format!("Q2{blank}SK 12340 -15 4100 30 1");
+        assert_answer(COMMANDS[4], line.as_bytes(), &format!("refused {REPORT_FORM}"));
+    }
+}
+
+#[test]
+fn tabs_and_spaces_in_frames_are_no_symbols() {
+    let right = frame_line(&frame_of(word_of_line(TELEMETRY)));
+    for arguments in [COMMANDS[1], COMMANDS[2]] {
+        for blank in [b' ', b'\t'] {
+            for place in [0, 77, 161] {
+                let mut line = right.clone();
+                line[place] = blank;
+                let refused = format!("refused 7 {place}: the symbol isn't 0 to 3");
+                assert_answer(arguments, &line, &refused);
+            }
+            for line in [[&[blank], &right[..]].concat(), [&right[..], &[blank]].concat()] {
+                assert_answer(arguments, &line, "refused 1 0: a frame has 162 symbols");
+            }
+        }
+    }
+}
+
+/// Holds the program's answers to those that it gives to another input, in plain text and in JSON.
+fn assert_answered_as(arguments: &[&str], input: &[u8], other: &[u8]) {
+    for arguments in [arguments.to_vec(), [arguments, &["--json"]].concat()] {
+        let [found, expected] = [input, other].map(|input| wsprcard(&arguments).run(input));
+        assert_output(input, &found.stdout, &expected.stdout, 0);
+        assert_eq!(found.stderr, expected.stderr, "{arguments:?}");
+        assert_eq!(found.status.code(), expected.status.code(), "{arguments:?}");
+    }
+}
+
+/// Right and refused lines, by the program alone.
+#[test]
+fn lines_in_any_case_are_answered_as_in_capitals() {
+    let mut rng = Rng::new(15);
+    for arguments in [COMMANDS[0], COMMANDS[3]] {
+        let mut lines: Vec<_> = (0..6_000).map(|_| any_line(&mut rng, arguments)).collect();
+        lines.iter_mut().for_each(|line| recase(&mut rng, line));
+        let input = joined(lines);
+        assert_answered_as(arguments, &input, &input.to_ascii_uppercase());
+    }
+}
+
+/// Messages and reports as people type them, by the program alone. In none a tab stands in a
+/// callsign: all are answered.
+#[test]
+fn tabs_between_fields_count_as_spaces() {
+    let mut rng = Rng::new(16);
+    for arguments in [COMMANDS[0], COMMANDS[3], COMMANDS[4]] {
+        let typed = (0..4_000).map(|_| {
+            let report = random_telemetry(&mut rng);
+            let message = match arguments {
+                ["encode"] => random_message(&mut rng),
+                _ => telemetry::write(&report, 6, 4).unwrap(),
+            };
+            match arguments {
+                ["telemetry", "--write"] => typed_report(&mut rng, &report),
+                _ => typed_message(&mut rng, &message),
+            }
+        });
+        let input = joined(typed);
+        let spaces: Vec<u8> =
+            input.iter().map(|&byte| if byte == b'\t' { b' ' } else { byte }).collect();
+        assert!(input != spaces, "there are tabs");
+        assert_answered_as(arguments, &input, &spaces);
+        assert_eq!(wsprcard(arguments).run(&input).status.code(), Some(0), "{arguments:?}");
     }
 }
 
@@ -962,7 +1153,8 @@ const ODD_NUMBERS: &str = "
 /// readers of numbers take.
 fn odd_numbers() -> Vec<String> {
     let mut numbers: Vec<String> = ODD_NUMBERS.split_whitespace().map(String::from).collect();
-    numbers.extend(["30\t", "\t30", "30\u{b}", "3\0", "\u{661}"].map(String::from));
+    let odd = ["30\t", "\t30", "3\t0", "30\u{b}", "\u{c}30", "3\0", "\u{661}"];
+    numbers.extend(odd.map(String::from));
     for power in [8, 16, 31, 32, 63, 64_u32] {
         for good in [0, 1, 30, 37, 4_100] {
             let wrapped = (1_u128 << power) + good;
@@ -1008,13 +1200,16 @@ fn readings_are_rounded_as_the_manual_page_says() {
 
 /// A line for this command: right, damaged, or of another kind.
 fn any_line(rng: &mut Rng, arguments: &[&str]) -> Vec<u8> {
-    let line = match call(arguments).command {
+    let mut line = match call(arguments).command {
         Command::Encode => random_message_line(rng),
         Command::Telemetry if rng.coin() => random_message_line(rng),
         Command::Telemetry => random_u4b_line(rng),
         Command::Read | Command::Repair { .. } => random_frame_line(rng),
         Command::WriteTelemetry => random_report_line(rng),
     };
+    if takes_messages(arguments) && rng.coin() {
+        recase(rng, &mut line);
+    }
     match rng.below(20) {
         0..=2 if !line.is_empty() => damaged(rng, line),
         3 => {
@@ -1148,7 +1343,7 @@ fn a_megabyte_of_any_bytes_is_answered() {
     for arguments in COMMANDS {
         let input = rng.bytes(MEGABYTE);
         check(arguments, &input);
-        let likely = b"0123 0123 0123 0123 0123 ABFNQ19.-\r\n\n";
+        let likely = b"0123 0123 0123 0123 0123 ABFNQ19abfnq.-\t\r\n\n";
         let input: Vec<u8> = (0..MEGABYTE).map(|_| rng.pick(likely)).collect();
         check(arguments, &input);
     }

@@ -7,7 +7,7 @@ use std::os::unix::net::UnixStream;
 use std::time::{Duration, Instant};
 
 use wsprcard_tests::child::{self, Ended, Program};
-use wsprcard_tests::inputs::random_message;
+use wsprcard_tests::inputs::{random_message, recase};
 use wsprcard_tests::lines::{damaged_message_line, joined, message_line, telemetry_line};
 use wsprcard_tests::reference::lines as reference;
 use wsprcard_tests::reference::message::Message;
@@ -67,12 +67,29 @@ refused 11 0
     assert_eq!(text_of(&input[..input.len() - 1]), output);
 }
 
+/// The output is the published one of the same lines in capitals.
+#[test]
+fn the_published_lines_in_small_letters_are_answered() {
+    let input = b"qq2xft gp99 60\n0z0aai rm31 33\n000aaa aa00 00\n";
+    let output = "\
+CH GR ALT TEMP MV KT GPS
+Q2 SK 12340 -15 4100 30 1
+refused 12 0
+refused 11 0
+";
+    assert_eq!(text_of(input), output);
+    assert_eq!(text_of(&input[..input.len() - 1]), output);
+}
+
 /// The answers are worked out by hand.
 #[test]
 fn lines_with_every_refusal_are_answered() {
     let answers = [
         ("000AAA AA00 03", "00 AA 0 -50 4000 0 0"),
         ("0Z0AAH RM31 33", "00 XX 21340 39 3950 82 1"),
+        ("000aaa aa00 03", "00 AA 0 -50 4000 0 0"),
+        ("0z0aah rm31 33", "00 XX 21340 39 3950 82 1"),
+        ("qQ2xFt Gp99 60", "Q2 SK 12340 -15 4100 30 1"),
         ("QQ2XFT GP99 6", "refused 1 0"),
         ("QQ2XFT GP99 060", "refused 1 0"),
         ("QQ2XFT GP99 60 ", "refused 1 0"),
@@ -81,29 +98,44 @@ fn lines_with_every_refusal_are_answered() {
         ("QQ2XFT GP99-60", "refused 1 0"),
         ("QQ2XFT GP99 6x", "refused 1 0"),
         ("qQ2XFT GP99 x0", "refused 1 0"),
+        ("QQ2XFT\tGP99 60", "refused 1 0"),
+        ("QQ2XFT GP99\t60", "refused 1 0"),
+        ("qq2xft\tgp99\t60", "refused 1 0"),
         ("QQ2XFT GP99  3", "refused 1 0"),
         ("QQ2XFT GP99 +3", "refused 1 0"),
         ("", "refused 1 0"),
-        ("qQ2XFT GP99 60", "refused 2 0"),
+        ("{Q2XFT GP99 60", "refused 2 0"),
+        ("\tQ2XFT GP99 60", "refused 2 0"),
+        ("q`2xft gp99 60", "refused 2 1"),
         ("Q 2XFT GP99 60", "refused 2 1"),
         ("QQAXFT GP99 60", "refused 2 2"),
+        ("qqaxft gp99 60", "refused 2 2"),
         ("QQ29FT GP99 60", "refused 2 3"),
+        ("qq2x\tt gp99 60", "refused 2 4"),
         ("QQ2X9T GP99 60", "refused 2 4"),
         ("QQ2XF9 GP99 60", "refused 2 5"),
         ("QQ2XFT SP99 60", "refused 2 6"),
+        ("QQ2XFT sp99 60", "refused 2 6"),
         ("QQ2XFT GS99 60", "refused 2 7"),
+        ("qq2xft gz99 60", "refused 2 7"),
         ("QQ2XFT GPA9 60", "refused 2 8"),
+        ("qq2xft gp9\t 60", "refused 2 9"),
         ("QQ2XFT GP9A 61", "refused 2 9"),
         ("QQ2XFT GP99 61", "refused 3 0"),
         ("2Q2XFT GP99 99", "refused 3 0"),
         ("2Q2 FT GP99 60", "refused 10 0"),
         ("QQ2 F  GP99 60", "refused 10 3"),
+        ("k12xft gp99 60", "refused 10 0"),
         ("QQ2X   GP99 60", "refused 10 4"),
+        ("qq2x   gp99 60", "refused 10 4"),
         ("QQ2XF  GP99 57", "refused 10 5"),
         ("0Z0AAI GP99 57", "refused 11 0"),
         ("0Z0AAH RM31 37", "refused 11 0"),
         ("0Z0AAI RM31 40", "refused 12 0"),
         ("0Z0AAH RM31 40", "refused 13 0"),
+        ("0z0aah rm31 37", "refused 11 0"),
+        ("0z0aai rm31 40", "refused 12 0"),
+        ("0z0aah rm31 40", "refused 13 0"),
     ];
     let mut output = String::from(HEADER);
     for (line, answer) in answers {
@@ -252,14 +284,45 @@ fn every_byte_at_every_place_is_answered() {
     let mut lines = Vec::new();
     for place in 0..14 {
         for byte in 0..=255 {
-            for turn in 0..4 {
+            for turn in 0..6 {
                 let mut line = if turn == 0 { LINE.to_vec() } else { telemetry_line(&mut rng) };
+                if turn >= 3 {
+                    recase(&mut rng, &mut line);
+                }
                 line[place] = byte;
                 lines.push(line);
             }
         }
     }
-    check(&joined(lines));
+    let input = joined(lines);
+    check(&input);
+    assert_answered_as_capitals(&input);
+}
+
+/// By the program alone: small letters are answered as their capitals are. No byte that isn't a
+/// letter has another capital.
+fn assert_answered_as_capitals(input: &[u8]) {
+    child::assert_output(input, &run(input), &run(&input.to_ascii_uppercase()), 1);
+}
+
+/// Right lines, messages that aren't telemetry, and damaged lines, with tabs among them.
+#[test]
+fn lines_in_any_case_are_answered_as_in_capitals() {
+    let mut rng = Rng::new(6);
+    let lines: Vec<_> = (0..60_000)
+        .map(|turn| {
+            let mut line = match turn % 3 {
+                0 => telemetry_line(&mut rng),
+                1 => message_line(&random_message(&mut rng)),
+                _ => damaged_message_line(&mut rng),
+            };
+            recase(&mut rng, &mut line);
+            line
+        })
+        .collect();
+    let input = joined(lines);
+    check(&input);
+    assert_answered_as_capitals(&input);
 }
 
 /// Every pair of bytes for the power, with telemetry before it that differs in parity.

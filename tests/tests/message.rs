@@ -4,8 +4,9 @@
 use wsprcard_tests::answers::{message_answer, refused_message, refused_word, word_answer};
 use wsprcard_tests::card;
 use wsprcard_tests::inputs::{
-    bad_character, bad_low, bad_power, field_lengths, good_low, legal_bytes, random_characters,
-    random_legal_word, random_message, spoil,
+    bad_character, bad_low, bad_power, capital_form, characters_of, field_lengths, good_low,
+    is_legal, legal_bytes, message_in_any_case, message_in_small_letters, random_characters,
+    random_legal_word, random_message, recase, spoil,
 };
 use wsprcard_tests::lent::Lent;
 use wsprcard_tests::reference::message::{
@@ -39,6 +40,15 @@ impl Check {
     /// Ten characters, of which the first six are the callsign.
     fn pack_characters(&mut self, characters: &[u8; 10], power: u32) -> card::Word {
         self.pack(&characters[..6], &characters[6..], power)
+    }
+
+    /// The same, and holds the answer to that of the capital form.
+    fn pack_as_capitals(&mut self, characters: &[u8; 10], power: u32) -> card::Word {
+        let found = self.pack_characters(characters, power);
+        let capitals = capital_form(*characters);
+        let expected = card::pack(&capitals[..6], &capitals[6..], power);
+        assert_eq!(found, expected, "{} {power}", text(characters));
+        found
     }
 
     fn pack_lent(&mut self, mut callsign: Lent, mut locator: Lent, power: u32) -> card::Word {
@@ -115,15 +125,16 @@ fn the_bench_sheet_holds() {
     assert_eq!(card::pack(b" K1ABC", b"FN20", 37).word, word);
     let largest = 262_177_559 * 4_194_304 + 4_147_196;
     assert_eq!(card::pack(b" Z9   ", b"AR09", 60).word, largest);
-    assert_eq!(check.pack(b" k1abc", b"FN20", 37), refused_word(2, 1));
-    assert_eq!(check.pack(b" K1ABC", b"fn20", 37), refused_word(2, 6));
+    assert_eq!(check.pack(b" k1abc", b"fn20", 37), card::Word { refusal: 0, place: 0, word });
+    assert_eq!(check.pack(b" z9   ", b"ar09", 60).word, largest);
+    assert_eq!(check.pack(b" k1abc", b"sn20", 37), refused_word(2, 6));
     assert_eq!(check.pack(b" K1ABC", b"FN20", 36), refused_word(3, 0));
     assert_eq!(check.unpack(largest), card::Message { refusal: 0, place: 0, power: 60 });
     assert_eq!(check.unpack(1 << 50), refused_message(4, 0));
     assert_eq!(check.unpack(262_177_560 << 22), refused_message(4, 0));
     assert_eq!(check.unpack(32_400 * 128 + 64), refused_message(5, 0));
     assert_eq!(check.unpack(32_399 * 128 + 65), refused_message(6, 0));
-    check.finish(13);
+    check.finish(14);
 }
 
 #[test]
@@ -132,10 +143,12 @@ fn words_are_those_of_wsjtx() {
     for Vector { message, word, .. } in vectors::wsjtx() {
         let expected = card::Word { refusal: 0, place: 0, word };
         assert_eq!(check.pack_message(&message), expected, "{message:?}");
+        let small = message_in_small_letters(&message);
+        assert_eq!(check.pack_message(&small), expected, "{small:?}");
         check.unpack(word);
         assert_eq!(read_message(word), message, "{word:#x}");
     }
-    check.finish(2 * 39);
+    check.finish(3 * 39);
 }
 
 // Packing
@@ -193,11 +206,14 @@ fn every_byte_at_every_place_is_packed_or_refused() {
         for byte in 0..=255 {
             for turn in 0..24 {
                 let mut characters = random_characters(&mut check.rng);
+                if turn % 2 == 1 {
+                    recase(&mut check.rng, &mut characters);
+                }
                 characters[place] = byte;
                 let power =
                     if turn % 3 == 2 { bad_power(&mut check.rng) } else { check.rng.pick(&POWERS) };
-                let found = check.pack_characters(&characters, power);
-                if !CHARACTERS[place].contains(&byte) {
+                let found = check.pack_as_capitals(&characters, power);
+                if !is_legal(place, byte) {
                     assert_eq!(found, refused_word(2, place as u32), "{}", text(&characters));
                 }
             }
@@ -304,13 +320,94 @@ fn arbitrary_bytes_are_packed_or_refused() {
     check.finish(200_000);
 }
 
-/// Any bytes at all, or only those of the callsign's characters.
+/// Any bytes at all, or only those of the callsign's characters, their letters in any case.
 fn any_bytes(rng: &mut Rng, len: usize) -> Vec<u8> {
     if rng.coin() {
         rng.bytes(len)
     } else {
-        (0..len).map(|_| rng.pick(CHARACTERS[0])).collect()
+        let mut bytes: Vec<u8> = (0..len).map(|_| rng.pick(CHARACTERS[0])).collect();
+        recase(rng, &mut bytes);
+        bytes
     }
+}
+
+// Small letters
+
+/// Every small letter, and the two bytes beside them, at every place: a to z count as their
+/// capitals where those are legal, and are refused with their place where they aren't.
+#[test]
+fn small_letters_count_as_their_capitals() {
+    let mut check = Check::new(23);
+    for place in 0..10 {
+        for byte in b'`'..=b'{' {
+            for _ in 0..40 {
+                let mut characters = random_characters(&mut check.rng);
+                characters[place] = byte;
+                let power = check.rng.pick(&POWERS);
+                let found = check.pack_characters(&characters, power);
+                let counts = match place {
+                    0 | 1 | 3..=5 => (b'a'..=b'z').contains(&byte),
+                    6 | 7 => (b'a'..=b'r').contains(&byte),
+                    _ => false,
+                };
+                if counts {
+                    characters[place] = byte - 32;
+                    let expected = card::pack(&characters[..6], &characters[6..], power);
+                    assert_eq!(found, expected, "{byte} at {place} of {}", text(&characters));
+                    assert_eq!(characters_of(&read_message(found.word)), characters);
+                } else {
+                    assert_eq!(found, refused_word(2, place as u32), "{}", text(&characters));
+                }
+            }
+        }
+    }
+    check.finish(10 * 28 * 40);
+}
+
+#[test]
+fn messages_in_any_case_are_packed_as_their_capital_form() {
+    let mut check = Check::new(24);
+    for _ in 0..200_000 {
+        let message = random_message(&mut check.rng);
+        let in_any_case = message_in_any_case(&mut check.rng, &message);
+        for typed in [in_any_case, message_in_small_letters(&message)] {
+            let found = check.pack_message(&typed);
+            let expected = card::pack(&message.callsign, &message.locator, message.power);
+            assert_eq!(found, expected, "{typed:?}");
+            assert_eq!(read_message(found.word), message, "{typed:?}");
+        }
+    }
+    check.finish(2 * 200_000);
+}
+
+/// Bad lengths, characters and powers in every combination, the letters in any case.
+#[test]
+fn refusals_of_messages_in_any_case_are_those_of_their_capital_form() {
+    let mut check = Check::new(25);
+    let mut seen = [0; 4];
+    for turn in 0..160_000 {
+        let rng = &mut check.rng;
+        let any_len = rng.between(5, 7) as usize;
+        let callsign_len = if turn & 1 != 0 { any_len } else { CALLSIGN_LEN };
+        let mut callsign = legal_bytes(rng, 0, callsign_len);
+        let mut locator = legal_bytes(rng, 6, LOCATOR_LEN);
+        if turn & 2 != 0 {
+            spoil(rng, &mut callsign, 0);
+        }
+        if turn & 4 != 0 {
+            spoil(rng, &mut locator, 6);
+        }
+        let power = if turn & 8 != 0 { bad_power(rng) } else { rng.pick(&POWERS) };
+        recase(rng, &mut callsign);
+        recase(rng, &mut locator);
+        let found = check.pack(&callsign, &locator, power);
+        let capitals = [callsign.to_ascii_uppercase(), locator.to_ascii_uppercase()];
+        let expected = card::pack(&capitals[0], &capitals[1], power);
+        assert_eq!(found, expected, "{} {} {power}", text(&callsign), text(&locator));
+        seen[found.refusal as usize] += 1;
+    }
+    assert!(seen.iter().all(|&count| count >= 10_000), "{seen:?}");
+    check.finish(160_000);
 }
 
 // Reading words

@@ -6,8 +6,9 @@ use wsprcard_tests::answers::{message_answer, reading_answer, refused_message, r
 use wsprcard_tests::card;
 use wsprcard_tests::counts::Counts;
 use wsprcard_tests::inputs::{
-    bad_character, bad_power, field_lengths, legal_bytes, random_characters, random_message,
-    random_telemetry, spoil, spoil_telemetry,
+    bad_character, bad_power, capital_form, characters_of, field_lengths, is_legal, legal_bytes,
+    message_in_any_case, message_in_small_letters, random_characters, random_message,
+    random_telemetry, recase, spoil, spoil_telemetry, LEGAL_BYTES,
 };
 use wsprcard_tests::lent::Lent;
 use wsprcard_tests::reference::frame::FRAME_LEN;
@@ -71,6 +72,15 @@ impl Check {
     /// Ten characters, of which the first six are the callsign.
     fn read_characters(&mut self, characters: &[u8; 10], power: u32) -> card::Reading {
         self.read(&characters[..6], &characters[6..], power)
+    }
+
+    /// The same, and holds the answer to that of the capital form.
+    fn read_as_capitals(&mut self, characters: &[u8; 10], power: u32) -> card::Reading {
+        let found = self.read_characters(characters, power);
+        let capitals = capital_form(*characters);
+        let expected = card::read_telemetry(&capitals[..6], &capitals[6..], power);
+        assert_eq!(found, expected, "{} {power}", text(characters));
+        found
     }
 
     fn read_lent(&mut self, mut callsign: Lent, mut locator: Lent, power: u32) -> card::Reading {
@@ -211,18 +221,25 @@ fn the_bench_sheet_holds() {
     assert_eq!(message_of(&REPORT), message(b"QQ2XFT", b"GP99", 60));
     let reading = Telemetry { temperature: -15, speed: 30, ..REPORT };
     assert_eq!(telemetry_in(&message(b"QQ2XFT", b"GP99", 60)), reading);
+    assert_eq!(telemetry_in(&message(b"qq2xft", b"gp99", 60)), reading);
+    assert_eq!(telemetry_in(&message(b"qQ2xFt", b"Gp99", 60)), reading);
     assert_eq!((reference::a_of(&LARGEST), reference::b_of(&LARGEST)), (615_167, 604_799));
     assert_eq!(message_of(&LARGEST), message(b"0Z0AAH", b"RM31", 33));
     let reading =
         Telemetry { altitude: 21_340, temperature: 39, voltage: 3_950, speed: 82, ..LARGEST };
     assert_eq!(telemetry_in(&message(b"0Z0AAH", b"RM31", 33)), reading);
+    assert_eq!(telemetry_in(&message(b"0z0aah", b"rm31", 33)), reading);
     assert_eq!(check.read(b"0Z0AAI", b"RM31", 33), refused_reading(12, 0));
     assert_eq!(check.read(b"0Z0AAH", b"RM31", 37), refused_reading(11, 0));
     assert_eq!(check.read(b"0Z0AAH", b"RM31", 40), refused_reading(13, 0));
     assert_eq!(check.read(b"000AAA", b"AA00", 0), refused_reading(11, 0));
+    assert_eq!(check.read(b"0z0aai", b"rm31", 33), refused_reading(12, 0));
+    assert_eq!(check.read(b"0z0aah", b"rm31", 37), refused_reading(11, 0));
+    assert_eq!(check.read(b"0z0aah", b"rm31", 40), refused_reading(13, 0));
+    assert_eq!(check.read(b"000aaa", b"aa00", 0), refused_reading(11, 0));
     let too_high = Telemetry { altitude: 21_360, ..REPORT };
     assert_eq!(check.write(&too_high), refused_message(14, 4));
-    check.finish(&[("write", 14, 1), ("read", 11, 2), ("read", 12, 1), ("read", 13, 1)]);
+    check.finish(&[("write", 14, 1), ("read", 11, 4), ("read", 12, 2), ("read", 13, 2)]);
 }
 
 /// Voltage 3,000 is code 20, 4,999 is code 19, code 0 reads 4,000; altitude 21,359 is code
@@ -611,39 +628,44 @@ fn every_locator_and_power_is_read_or_refused() {
     check.finish(&[("read", 0, 302_400), ("read", 11, 307_800), ("read", 13, 5_400)]);
 }
 
-/// All 37 legal characters at place 0 and all digits at place 2.
+/// All 37 legal characters and all small letters at place 0, and all digits at place 2. A small q
+/// is given back as Q.
 #[test]
 fn every_channel_is_read_or_refused() {
     let mut check = Check::new(20);
-    for &first in CHARACTERS[0] {
+    for first in CHARACTERS[0].iter().copied().chain(b'a'..=b'z') {
         for &third in CHARACTERS[2] {
             for _ in 0..20 {
                 let Message { mut callsign, locator, power } = random_report(&mut check.rng);
                 callsign[0] = first;
                 callsign[2] = third;
                 let found = check.read(&callsign, &locator, power);
-                if b"01Q".contains(&first) {
-                    assert_eq!((found.first, found.third), (first, third));
-                } else {
-                    assert_eq!(found, refused_reading(10, 0), "{}", text(&callsign));
+                match first {
+                    b'0' | b'1' | b'Q' => assert_eq!((found.first, found.third), (first, third)),
+                    b'q' => assert_eq!((found.first, found.third), (b'Q', third)),
+                    _ => assert_eq!(found, refused_reading(10, 0), "{}", text(&callsign)),
                 }
             }
         }
     }
-    check.finish(&[("read", 0, 30 * 20), ("read", 10, 340 * 20)]);
+    check.finish(&[("read", 0, 40 * 20), ("read", 10, (340 + 250) * 20)]);
 }
 
-/// Every set of spaces at places 3 to 5, with good and bad first characters.
+/// Every set of spaces at places 3 to 5, with good and bad first characters, and with the letters
+/// as capitals and in any case.
 #[test]
 fn the_first_space_is_refused() {
     let mut check = Check::new(21);
     for spaces in 1u32..8 {
         for &first in CHARACTERS[0] {
-            for _ in 0..50 {
+            for turn in 0..50 {
                 let Message { mut callsign, locator, power } = random_report(&mut check.rng);
                 callsign[0] = first;
                 for place in (0..3).filter(|place| spaces >> place & 1 == 1) {
                     callsign[3 + place] = b' ';
+                }
+                if turn % 2 == 1 {
+                    recase(&mut check.rng, &mut callsign);
                 }
                 let is_good = b"01Q".contains(&first);
                 let place = if is_good { 3 + spaces.trailing_zeros() } else { 0 };
@@ -694,6 +716,119 @@ fn the_last_place_1_is_read_as_far_as_aah() {
     check.finish(&[("read", 0, 8), ("read", 10, 2_107), ("read", 12, 17_568)]);
 }
 
+// Small letters
+
+/// Every small letter, and the two bytes beside them, at every place but the first, which is the
+/// channel's: a to z count as their capitals where those are legal.
+#[test]
+fn small_letters_count_as_their_capitals() {
+    let mut check = Check::new(37);
+    for place in 1..10 {
+        for byte in b'`'..=b'{' {
+            for _ in 0..60 {
+                let (mut characters, power) = report_characters(&mut check.rng);
+                characters[place] = byte;
+                let found = check.read_characters(&characters, power);
+                let counts = match place {
+                    1 | 3..=5 => (b'a'..=b'z').contains(&byte),
+                    6 | 7 => (b'a'..=b'r').contains(&byte),
+                    _ => false,
+                };
+                if counts {
+                    characters[place] = byte - 32;
+                    let expected = card::read_telemetry(&characters[..6], &characters[6..], power);
+                    assert_eq!(found, expected, "{byte} at {place} of {}", text(&characters));
+                } else {
+                    assert_eq!(found, refused_reading(2, place as u32), "{}", text(&characters));
+                }
+            }
+        }
+    }
+    check.finish(&[
+        ("read", 0, (4 * 26 + 2 * 18) * 30),
+        ("read", 2, (4 * 2 + 2 * 10 + 3 * 28) * 60),
+        ("read", 12, 1),
+        ("read", 13, 1),
+    ]);
+}
+
+/// Messages of the channels with any A and any B that there is room for, telemetry or not. What is
+/// read of them in small letters is what is read of their capital form, and is written as that.
+#[test]
+fn messages_in_any_case_are_read_as_their_capital_form() {
+    let mut check = Check::new(38);
+    for _ in 0..200_000 {
+        let a = check.rng.below(ROOM_A.into()) as u32;
+        let b = check.rng.below(ROOM_B.into()) as u32;
+        let message = message_with(&mut check.rng, a, b);
+        let Message { callsign, locator, power } = message;
+        let expected = card::read_telemetry(&callsign, &locator, power);
+        let in_any_case = message_in_any_case(&mut check.rng, &message);
+        for typed in [in_any_case, message_in_small_letters(&message)] {
+            assert_eq!(check.read_message(&typed), expected, "{typed:?}");
+            if expected.refusal == 0 {
+                let reading = telemetry_in(&typed);
+                assert_eq!(message_of(&reading.in_tenths()), message, "{typed:?}");
+            }
+        }
+    }
+    check.finish(&[
+        ("read", 0, 2 * 90_000),
+        ("read", 11, 2 * 90_000),
+        ("read", 12, 2 * 2_000),
+        ("read", 13, 2 * 600),
+    ]);
+}
+
+/// Every set of faults that a message to be read can have, the letters in any case.
+#[test]
+fn refusals_of_messages_in_any_case_are_those_of_their_capital_form() {
+    let mut check = Check::new(39);
+    for faults in 0u32..512 {
+        for _ in 0..100 {
+            let (mut callsign, mut locator, power) = faulty_report(&mut check.rng, faults);
+            recase(&mut check.rng, &mut callsign);
+            recase(&mut check.rng, &mut locator);
+            let found = check.read(&callsign, &locator, power);
+            let capitals = [callsign.to_ascii_uppercase(), locator.to_ascii_uppercase()];
+            let expected = card::read_telemetry(&capitals[0], &capitals[1], power);
+            assert_eq!(found, expected, "faults {faults:09b} {}", text(&callsign));
+            let first = FAULTS.get(faults.trailing_zeros() as usize).copied().unwrap_or(0);
+            assert_eq!(found.refusal, first, "faults {faults:09b} {}", text(&callsign));
+        }
+    }
+    check.finish(&[
+        ("read", 0, 100),
+        ("read", 1, 384 * 100),
+        ("read", 2, 64 * 100),
+        ("read", 3, 32 * 100),
+        ("read", 10, 24 * 100),
+        ("read", 11, 4 * 100),
+        ("read", 12, 2 * 100),
+        ("read", 13, 100),
+    ]);
+}
+
+/// What is given by itself has no capital form: a small q and the letters a to x are refused at
+/// their places, the first of them where there are several. This holds what small letters in
+/// messages don't change, so that it held before them too.
+#[test]
+fn small_letters_given_by_themselves_are_not_written() {
+    let mut check = Check::new(40);
+    assert_eq!(check.write(&Telemetry { first: b'q', ..REPORT }), refused_message(14, 0));
+    for letter in b'a'..=b'x' {
+        let fifth = Telemetry { grid5: letter, ..REPORT };
+        assert_eq!(check.write(&fifth), refused_message(14, 2), "{letter}");
+        let sixth = Telemetry { grid6: letter, ..REPORT };
+        assert_eq!(check.write(&sixth), refused_message(14, 3), "{letter}");
+        let both = Telemetry { grid6: letter, ..fifth };
+        assert_eq!(check.write(&both), refused_message(14, 2), "{letter}");
+        let all = Telemetry { first: b'q', ..both };
+        assert_eq!(check.write(&all), refused_message(14, 0), "{letter}");
+    }
+    check.finish(&[("write", 14, 1 + 4 * 24)]);
+}
+
 // Reading: refusals and buffers
 
 #[test]
@@ -703,23 +838,25 @@ fn every_byte_at_every_place_is_read_or_refused() {
         for byte in 0..=255 {
             for turn in 0..24 {
                 let (mut characters, mut power) = report_characters(&mut check.rng);
+                if turn % 2 == 1 {
+                    recase(&mut check.rng, &mut characters);
+                }
                 characters[place] = byte;
                 if turn % 3 == 2 {
                     power = bad_power(&mut check.rng);
                 }
-                let found = check.read_characters(&characters, power);
-                if !CHARACTERS[place].contains(&byte) {
+                let found = check.read_as_capitals(&characters, power);
+                if !is_legal(place, byte) {
                     assert_eq!(found, refused_reading(2, place as u32), "{}", text(&characters));
                 }
             }
         }
     }
-    let legal = CHARACTERS.iter().map(|legal| legal.len() as u64).sum::<u64>();
     check.finish(&[
         ("read", 0, 1_000),
-        ("read", 2, (2_560 - legal) * 24),
-        ("read", 3, legal * 8),
-        ("read", 10, 37 * 16),
+        ("read", 2, (2_560 - LEGAL_BYTES) * 24),
+        ("read", 3, LEGAL_BYTES * 8),
+        ("read", 10, (34 + 25 + 3) * 16),
         ("read", 11, 10),
         ("read", 12, 10),
         ("read", 13, 10),
@@ -728,11 +865,8 @@ fn every_byte_at_every_place_is_read_or_refused() {
 
 /// The ten characters of random telemetry, and its power.
 fn report_characters(rng: &mut Rng) -> ([u8; 10], u32) {
-    let Message { callsign, locator, power } = random_report(rng);
-    let mut characters = [0; 10];
-    characters[..6].copy_from_slice(&callsign);
-    characters[6..].copy_from_slice(&locator);
-    (characters, power)
+    let message = random_report(rng);
+    (characters_of(&message), message.power)
 }
 
 /// Every set of places with bad characters, with a legal power and with others.
@@ -1033,13 +1167,15 @@ fn a_read_message_is_written_again() {
     assert!(accepted >= 130_000 && rejected >= 130_000, "{accepted} read, {rejected} refused");
 }
 
-/// Telemetry to a message, its word and its frame, and all the way back, by the library alone.
+/// Telemetry to a message, its word and its frame, and all the way back, by the library alone. On
+/// the way the message's letters are in any case.
 #[test]
 fn telemetry_goes_through_a_frame() {
     let mut rng = Rng::new(36);
     for _ in 0..20_000 {
         let telemetry = random_telemetry(&mut rng);
-        let Message { callsign, locator, power } = message_of(&telemetry);
+        let sent = message_of(&telemetry);
+        let Message { callsign, locator, power } = message_in_any_case(&mut rng, &sent);
         let mut frame = [255; FRAME_LEN];
         let written = card::write_message(&callsign, &locator, power, &mut frame);
         assert_eq!(written.refusal, 0, "{telemetry:?}");
@@ -1047,19 +1183,26 @@ fn telemetry_goes_through_a_frame() {
         let read = card::read_message(&frame, &mut callsign, &mut locator);
         assert_eq!(read.refusal, 0, "{telemetry:?}");
         let message = Message { callsign, locator, power: read.power };
+        assert_eq!(message, sent, "{telemetry:?}");
         read_back(&message, &telemetry);
     }
 }
 
 /// All callsigns of one channel are read with a report's locator and power, and all locators
-/// and powers with a report's callsign. Those accepted are just those that the reference makes.
+/// and powers with a report's callsign, each as capitals and in any case. Those accepted are just
+/// those whose capital form the reference makes.
 #[test]
 fn reading_accepts_exactly_what_writing_makes() {
+    let mut rng = Rng::new(41);
     let made: HashSet<[u8; 6]> = every_a().map(|telemetry| made_of(&telemetry).callsign).collect();
     assert_eq!(made.len(), 615_168);
     for callsign in callsigns(b"Q2") {
-        let found = card::read_telemetry(&callsign, b"GP99", 60);
-        assert_eq!(found.refusal == 0, made.contains(&callsign), "{}", text(&callsign));
+        let mut typed = callsign;
+        recase(&mut rng, &mut typed);
+        for typed in [callsign, typed] {
+            let found = card::read_telemetry(&typed, b"GP99", 60);
+            assert_eq!(found.refusal == 0, made.contains(&callsign), "{}", text(&typed));
+        }
     }
     let made: HashSet<([u8; 4], u32)> = every_b()
         .map(|telemetry| made_of(&telemetry))
@@ -1068,9 +1211,13 @@ fn reading_accepts_exactly_what_writing_makes() {
     assert_eq!(made.len(), 302_400);
     for b in 0..ROOM_B {
         let (locator, power) = reference::locator_and_power_of(b);
-        let found = card::read_telemetry(b"QQ2XFT", &locator, power);
         let is_made = made.contains(&(locator, power));
-        assert_eq!(found.refusal == 0, is_made, "{} {power}", text(&locator));
+        let mut typed = locator;
+        recase(&mut rng, &mut typed);
+        for typed in [locator, typed] {
+            let found = card::read_telemetry(b"QQ2XFT", &typed, power);
+            assert_eq!(found.refusal == 0, is_made, "{} {power}", text(&typed));
+        }
     }
 }
 

@@ -183,7 +183,8 @@ fn symbols(line: &[u8]) -> Vec<u8> {
     line.iter().map(|byte| byte.wrapping_sub(b'0')).collect()
 }
 
-/// The callsign's field of six, the locator and the power.
+/// The callsign's field of six, the locator and the power. The callsign is all before the locator:
+/// a space or a tab in it is its own.
 fn message_in(line: &[u8]) -> Result<(Vec<u8>, &[u8], u32), Refusal> {
     let (rest, power) = last_field(line);
     let (callsign, locator) = last_field(rest);
@@ -193,18 +194,23 @@ fn message_in(line: &[u8]) -> Result<(Vec<u8>, &[u8], u32), Refusal> {
     Ok((callsign_field(callsign), locator, number(power).unwrap_or(u32::MAX)))
 }
 
-/// What stands before the last field, and the last field.
-fn last_field(line: &[u8]) -> (&[u8], &[u8]) {
-    let line = without_end_spaces(line);
-    let start = line.iter().rposition(|&byte| byte == b' ').map_or(0, |space| space + 1);
-    (without_end_spaces(&line[..start]), &line[start..])
+/// Tabs between fields count as spaces.
+fn is_between_fields(byte: &u8) -> bool {
+    b" \t".contains(byte)
 }
 
-fn without_end_spaces(text: &[u8]) -> &[u8] {
-    let is_space = |byte: &u8| *byte == b' ';
-    let start = text.iter().take_while(|byte| is_space(byte)).count();
-    let spaces = text[start..].iter().rev().take_while(|byte| is_space(byte)).count();
-    &text[start..text.len() - spaces]
+/// What stands before the last field, and the last field.
+fn last_field(line: &[u8]) -> (&[u8], &[u8]) {
+    let line = without_ends(line);
+    let start = line.iter().rposition(is_between_fields).map_or(0, |space| space + 1);
+    (without_ends(&line[..start]), &line[start..])
+}
+
+/// The text without the spaces and tabs around it.
+fn without_ends(text: &[u8]) -> &[u8] {
+    let start = text.iter().take_while(|byte| is_between_fields(byte)).count();
+    let behind = text[start..].iter().rev().take_while(|byte| is_between_fields(byte)).count();
+    &text[start..text.len() - behind]
 }
 
 /// A callsign of two characters has no third, so that its third is no digit.
@@ -220,7 +226,7 @@ fn callsign_field(callsign: &[u8]) -> Vec<u8> {
 /// A report in the units in which it is written. What isn't two characters or a number is given
 /// as one that is out of its range.
 fn report_in(line: &[u8]) -> Result<Telemetry, Refusal> {
-    let fields = line.split(|&byte| byte == b' ').filter(|field| !field.is_empty());
+    let fields = line.split(is_between_fields).filter(|field| !field.is_empty());
     let fields: Vec<&[u8]> = fields.take(8).collect();
     let [channel, subsquare, altitude, temperature, voltage, speed, gps] = fields[..] else {
         return Err(WRONG_FORM);

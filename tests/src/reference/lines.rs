@@ -21,7 +21,8 @@ fn answer(line: &[u8]) -> String {
     }
 }
 
-/// A line is a callsign of six bytes, a space, a locator of four, a space, two power digits.
+/// A line is a callsign of six bytes, a space, a locator of four, a space, two power digits. A tab
+/// is no space here.
 fn read(line: &[u8]) -> Result<Telemetry, Refusal> {
     let fits = line.len() == 14
         && [line[6], line[11]] == *b"  "

@@ -8,7 +8,8 @@ pub const LOCATOR_LEN: usize = 4;
 pub const POWERS: [u32; 19] =
     [0, 3, 7, 10, 13, 17, 20, 23, 27, 30, 33, 37, 40, 43, 47, 50, 53, 57, 60];
 
-/// The characters legal at each place: 0 to 5 are the callsign's, 6 to 9 the locator's.
+/// The characters legal at each place: 0 to 5 are the callsign's, 6 to 9 the locator's. A small
+/// letter is legal where its capital is.
 pub const CHARACTERS: [&[u8]; 10] = [
     b"0123456789ABCDEFGHIJKLMNOPQRSTUVWXYZ ",
     b"0123456789ABCDEFGHIJKLMNOPQRSTUVWXYZ",
@@ -35,14 +36,20 @@ pub struct Message {
 }
 
 pub fn pack(callsign: &[u8], locator: &[u8], power: u32) -> Result<u64, Refusal> {
-    check(callsign, locator, power)?;
-    Ok(word_of(callsign_number(callsign), locator_number(locator), u64::from(power) + 64))
+    let Message { callsign, locator, power } = message_in_capitals(callsign, locator, power)?;
+    Ok(word_of(callsign_number(&callsign), locator_number(&locator), u64::from(power) + 64))
 }
 
+/// The message with small letters as their capitals, so that no other function sees a small one.
 /// Refuses what isn't a message.
-pub fn check(callsign: &[u8], locator: &[u8], power: u32) -> Result<(), Refusal> {
+pub fn message_in_capitals(
+    callsign: &[u8],
+    locator: &[u8],
+    power: u32,
+) -> Result<Message, Refusal> {
     check_lengths(callsign.len(), locator.len())?;
-    for (place, character) in callsign.iter().chain(locator).enumerate() {
+    let message = Message { callsign: capitals(callsign), locator: capitals(locator), power };
+    for (place, character) in message.callsign.iter().chain(&message.locator).enumerate() {
         if !CHARACTERS[place].contains(character) {
             return Err(Refusal { number: 2, place: place as u32 });
         }
@@ -50,7 +57,21 @@ pub fn check(callsign: &[u8], locator: &[u8], power: u32) -> Result<(), Refusal>
     if !POWERS.contains(&power) {
         return Err(Refusal { number: 3, place: 0 });
     }
-    Ok(())
+    Ok(message)
+}
+
+/// A field of just so many bytes, each as its capital.
+fn capitals<const LEN: usize>(field: &[u8]) -> [u8; LEN] {
+    let field: [u8; LEN] = field.try_into().expect("the length was checked");
+    field.map(capital)
+}
+
+/// A small letter as the letter of the same place among the capitals; any other byte as it is.
+fn capital(byte: u8) -> u8 {
+    match byte {
+        b'a'..=b'z' => b'A' + (byte - b'a'),
+        _ => byte,
+    }
 }
 
 pub fn unpack(word: u64, callsign_len: usize, locator_len: usize) -> Result<Message, Refusal> {
@@ -84,7 +105,7 @@ pub fn word_of(n: u64, m1: u64, low: u64) -> u64 {
     n * (1 << 22) + m
 }
 
-/// N of a callsign field of legal characters.
+/// N of a callsign field of legal characters, its letters capitals.
 pub fn callsign_number(callsign: &[u8]) -> u64 {
     let mut n = value(callsign[0]);
     n = n * 36 + value(callsign[1]);
@@ -106,7 +127,7 @@ fn callsign_of(n: u64) -> [u8; CALLSIGN_LEN] {
     ]
 }
 
-/// M1 of a locator of legal characters.
+/// M1 of a locator of legal characters, its letters capitals.
 pub fn locator_number(locator: &[u8]) -> u64 {
     let a = u64::from(locator[0] - b'A');
     let b = u64::from(locator[1] - b'A');

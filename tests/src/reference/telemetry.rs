@@ -63,15 +63,16 @@ pub fn write(
 }
 
 pub fn read(callsign: &[u8], locator: &[u8], power: u32) -> Result<Telemetry, Refusal> {
-    message::check(callsign, locator, power)?;
+    let Message { callsign, locator, power } =
+        message::message_in_capitals(callsign, locator, power)?;
     if !is_first(callsign[0]) {
         return Err(Refusal { number: 10, place: 0 });
     }
     if let Some(place) = (3..CALLSIGN_LEN).find(|&place| callsign[place] == b' ') {
         return Err(Refusal { number: 10, place: place as u32 });
     }
-    let a = a_in(callsign);
-    let b = b_in(locator, power);
+    let a = a_in(&callsign);
+    let b = b_in(&locator, power);
     if b.is_multiple_of(2) {
         return Err(Refusal { number: 11, place: 0 });
     }
@@ -129,7 +130,8 @@ pub fn callsign_of(first: u8, third: u8, a: u32) -> [u8; CALLSIGN_LEN] {
     [first, rest, third, letter(a / (26 * 26) % 26), letter(a / 26 % 26), letter(a % 26)]
 }
 
-/// A of a callsign field of legal characters that has no spaces in places 3 to 5.
+/// A of a callsign field of legal characters, its letters capitals, that has no spaces in places
+/// 3 to 5.
 pub fn a_in(callsign: &[u8]) -> u32 {
     let letter = |place: usize| u32::from(callsign[place] - b'A');
     let rest = match callsign[1] {
@@ -151,7 +153,7 @@ pub fn locator_and_power_of(b: u32) -> ([u8; LOCATOR_LEN], u32) {
     (locator, POWERS[(b % 19) as usize])
 }
 
-/// B of a locator of legal characters and a legal power.
+/// B of a locator of legal characters, its letters capitals, and a legal power.
 pub fn b_in(locator: &[u8], power: u32) -> u32 {
     let index = POWERS.iter().position(|&legal| legal == power).unwrap() as u32;
     let letter = |place: usize| u32::from(locator[place] - b'A');
