@@ -119,12 +119,11 @@ static void make_small(uint8_t *bytes, size_t count)
 /* Characters beside the ends of the sets, too; and one message in four is in small letters. */
 void spoil_message(inputs *in, size_t i)
 {
-    static const char spoilt[] = " /09:@AQRSXZ[`aqrsxz{\x7f\xff";
     message *m = &in->messages[i];
-    uint32_t place = below(PLACES + 1), kind = below(4 * (sizeof spoilt - 1));
-    uint8_t byte = (uint8_t)spoilt[kind / 4];
+    uint32_t place = below(PLACES + 1);
+    uint8_t byte = one_of(" /09:@AQRSXZ[`aqrsxz{\x7f\xff", 23);
 
-    if (kind % 4 == 0) {
+    if (i % 4 == 0) {
         make_small(m->callsign, CALLSIGN);
         make_small(m->locator, LOCATOR);
     }

@@ -57,8 +57,9 @@ static const struct {
     "data bits can have a lower or a higher live count.\n"
 #define REPORT_HELP \
     "A report is channel, sub-square, metres, degrees, millivolts, knots and GPS,\n" \
-    "as Q2 SK 12340 -15 4100 30 1. With --write, readings are rounded down to steps\n" \
-    "of 20 metres, 1 degree, 50 millivolts and 2 knots.\n"
+    "as Q2 SK 12340 -15 4100 30 1. Its letters are capitals, and tabs may stand between\n" \
+    "its fields. With --write, readings are rounded down to steps of 20 metres,\n" \
+    "1 degree, 50 millivolts and 2 knots.\n"
 
 /* Of its two helps one stands before the options and one behind them. */
 static const struct {

@@ -157,8 +157,7 @@ wspr_repaired wspr_repair(const uint8_t *frame, size_t frame_len, uint32_t limit
 /* The message of a telemetry report: writes its callsign and locator, returns its power. Each reading is rounded down
  * to its step.
  *
- *   first        the channel's first character, '0', '1' or 'Q'; 'q' is out of range, as are the
- *                small letters of the sub-square: they stand by themselves, and not in a message
+ *   first        the channel's first character, '0', '1' or 'Q'
  *   third        the channel's third character, '0' to '9'
  *   grid5 grid6  the sub-square's letters, 'A' to 'X' each
  *   altitude     0 to 21,359 metres, in steps of 20
@@ -166,6 +165,8 @@ wspr_repaired wspr_repair(const uint8_t *frame, size_t frame_len, uint32_t limit
  *   voltage      3,000 to 4,999 millivolts, in steps of 50
  *   speed        0 to 839 tenths of a knot, in steps of 20
  *   gps          0 or 1
+ *
+ * Small letters are out of range here: only those of a callsign and a locator count as their capitals.
  *
  * Refusals 1, 14, in that order: nothing is clamped. What u4b_read gives of the message is the low end of each step, so
  * never above what was measured and less than one step below it: -10 to -1 tenths give -1 degree, 0 to 9 give 0. */

@@ -172,16 +172,24 @@ static void hold_message_of(uint64_t word, const uint8_t *callsign, const uint8_
     hold(is_capital_form(own_locator, locator, LOCATOR_LEN), "the word has the locator in capitals");
 }
 
-static void hold_packed_as_capitals(struct generator *g, const struct message_input *given, wspr_word w)
+/* Lends the capital form of a message. */
+static void lend_capitals(struct generator *g, const struct message_input *given, struct lent *callsign,
+                          struct lent *locator)
 {
     struct message_input m = *given;
+
+    make_capital_form(&m);
+    *callsign = lend(g, &m.callsign);
+    *locator = lend(g, &m.locator);
+}
+
+static void hold_packed_as_capitals(struct generator *g, const struct message_input *m, wspr_word w)
+{
     struct lent callsign, locator;
     wspr_word same;
 
-    make_capital_form(&m);
-    callsign = lend(g, &m.callsign);
-    locator = lend(g, &m.locator);
-    same = wspr_pack(callsign.bytes, callsign.len, locator.bytes, locator.len, m.power);
+    lend_capitals(g, m, &callsign, &locator);
+    same = wspr_pack(callsign.bytes, callsign.len, locator.bytes, locator.len, m->power);
     hold(same.refusal == w.refusal && same.place == w.place && same.word == w.word, as_capitals);
     give_back(&callsign);
     give_back(&locator);
@@ -272,19 +280,16 @@ static void hold_message_in(const uint8_t *frame, const struct message_input *m)
 }
 
 /* Where the frame has its length: what was written in it, or that nothing was. */
-static void hold_written_as_capitals(struct generator *g, const struct message_input *given, const struct lent *frame,
+static void hold_written_as_capitals(struct generator *g, const struct message_input *m, const struct lent *frame,
                                      wspr_written w)
 {
-    struct message_input m = *given;
     struct lent callsign, locator;
     uint8_t own[FRAME_LEN];
     wspr_written same;
 
-    make_capital_form(&m);
-    callsign = lend(g, &m.callsign);
-    locator = lend(g, &m.locator);
+    lend_capitals(g, m, &callsign, &locator);
     memcpy(own, frame->before, FRAME_LEN);
-    same = wspr_write_message(callsign.bytes, callsign.len, locator.bytes, locator.len, m.power, own, FRAME_LEN);
+    same = wspr_write_message(callsign.bytes, callsign.len, locator.bytes, locator.len, m->power, own, FRAME_LEN);
     hold(same.refusal == w.refusal && same.place == w.place, as_capitals);
     hold(memcmp(own, frame->bytes, FRAME_LEN) == 0, "the frame is that of the capital form");
     give_back(&callsign);
@@ -563,8 +568,8 @@ static void hold_reading(const struct message_input *m, u4b_reading t)
     hold(t.voltage >= 3000 && t.voltage <= 4950 && t.voltage % 50 == 0, "the voltage is 3,000 to 4,950 in steps of 50");
     hold(t.speed <= 82 && t.speed % 2 == 0, "the speed is 0 to 82 in steps of 2");
     hold(back.refusal == 0 && back.power == m->power, "what is read is written as the same message");
-    hold(is_capital_form(callsign, m->callsign.bytes, CALLSIGN_LEN), "what is read is written as the same callsign");
-    hold(is_capital_form(locator, m->locator.bytes, LOCATOR_LEN), "what is read is written as the same locator");
+    hold(is_capital_form(callsign, m->callsign.bytes, CALLSIGN_LEN), "what is read is written as the callsign in capitals");
+    hold(is_capital_form(locator, m->locator.bytes, LOCATOR_LEN), "what is read is written as the locator in capitals");
 }
 
 /* The first character that telemetry never has: it must be 0, 1 or Q, small or capital, and 3 to 5 are no spaces.
@@ -592,16 +597,13 @@ static void hold_telemetry_refusal(const struct message_input *m, uint32_t refus
         hold(refusal == 0 || refusal >= 11, "a telemetry callsign is refused 11, 12 or 13 only");
 }
 
-static void hold_read_as_capitals(struct generator *g, const struct message_input *given, u4b_reading t)
+static void hold_read_as_capitals(struct generator *g, const struct message_input *m, u4b_reading t)
 {
-    struct message_input m = *given;
     struct lent callsign, locator;
     u4b_reading same;
 
-    make_capital_form(&m);
-    callsign = lend(g, &m.callsign);
-    locator = lend(g, &m.locator);
-    same = u4b_read(callsign.bytes, callsign.len, locator.bytes, locator.len, m.power);
+    lend_capitals(g, m, &callsign, &locator);
+    same = u4b_read(callsign.bytes, callsign.len, locator.bytes, locator.len, m->power);
     hold(memcmp(&same, &t, sizeof t) == 0, as_capitals); /* the struct has no padding */
     give_back(&callsign);
     give_back(&locator);

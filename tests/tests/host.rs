@@ -1025,8 +1025,7 @@ fn tabs_that_are_not_between_fields_are_refused() {
     }
 }
 
-/// A vertical tab, a form feed, a no-break space and a zero byte separate nothing. This holds what
-/// tabs don't change, so that it held before them too; the next test as well.
+/// A vertical tab, a form feed, a no-break space and a zero byte separate nothing.
 #[test]
 fn other_blanks_are_no_separators() {
     for blank in ["\u{b}", "\u{c}", "\u{a0}", "\0"] {
@@ -1149,8 +1148,8 @@ const ODD_NUMBERS: &str = "
     -5. 1f 1L 99999999999999999999 -99999999999999999999 99999999999999999999.9
     340282366920938463463374607431768211457";
 
-/// Ends of ranges, numbers that wrap to good ones in 8, 16, 32 or 64 bits, and forms that other
-/// readers of numbers take.
+/// Ends of ranges, numbers that wrap to good ones in 8, 16, 32 or 64 bits, forms that other readers
+/// of numbers take, and tabs, which separate.
 fn odd_numbers() -> Vec<String> {
     let mut numbers: Vec<String> = ODD_NUMBERS.split_whitespace().map(String::from).collect();
     let odd = ["30\t", "\t30", "3\t0", "30\u{b}", "\u{c}30", "3\0", "\u{661}"];

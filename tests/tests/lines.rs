@@ -54,31 +54,25 @@ fn random_lines(rng: &mut Rng, count: usize) -> Vec<u8> {
 
 // The published values
 
+const PUBLISHED: &str = "\
+CH GR ALT TEMP MV KT GPS
+Q2 SK 12340 -15 4100 30 1
+refused 12 0
+refused 11 0
+";
+
 #[test]
 fn the_published_lines_are_answered() {
     let input = b"QQ2XFT GP99 60\n0Z0AAI RM31 33\n000AAA AA00 00\n";
-    let output = "\
-CH GR ALT TEMP MV KT GPS
-Q2 SK 12340 -15 4100 30 1
-refused 12 0
-refused 11 0
-";
-    assert_eq!(text_of(input), output);
-    assert_eq!(text_of(&input[..input.len() - 1]), output);
+    assert_eq!(text_of(input), PUBLISHED);
+    assert_eq!(text_of(&input[..input.len() - 1]), PUBLISHED);
 }
 
-/// The output is the published one of the same lines in capitals.
 #[test]
 fn the_published_lines_in_small_letters_are_answered() {
     let input = b"qq2xft gp99 60\n0z0aai rm31 33\n000aaa aa00 00\n";
-    let output = "\
-CH GR ALT TEMP MV KT GPS
-Q2 SK 12340 -15 4100 30 1
-refused 12 0
-refused 11 0
-";
-    assert_eq!(text_of(input), output);
-    assert_eq!(text_of(&input[..input.len() - 1]), output);
+    assert_eq!(text_of(input), PUBLISHED);
+    assert_eq!(text_of(&input[..input.len() - 1]), PUBLISHED);
 }
 
 /// The answers are worked out by hand.

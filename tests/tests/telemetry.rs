@@ -810,8 +810,7 @@ fn refusals_of_messages_in_any_case_are_those_of_their_capital_form() {
 }
 
 /// What is given by itself has no capital form: a small q and the letters a to x are refused at
-/// their places, the first of them where there are several. This holds what small letters in
-/// messages don't change, so that it held before them too.
+/// their places, the first of them where there are several.
 #[test]
 fn small_letters_given_by_themselves_are_not_written() {
     let mut check = Check::new(40);

@@ -1,5 +1,5 @@
 -- Laws of `cond` and of tests, for definitions that test and refuse in turn and answer last.
-use mathlib.Core.Path.{_≡_, refl, ap}
+use mathlib.Core.Path.{_≡_, refl}
 use Prim.Native.Nat.{ℕ, _≤_, _<_}
 use mathlib.Core.Bool.{Bool, true, false, true≢false, false≢true, cond, _&&_, _||_}
 use lib.Dec.{eqb, leb, ltb}

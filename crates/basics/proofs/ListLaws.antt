@@ -19,7 +19,7 @@ use Rattle.basics.proofs.Choice.{both-true, by-test, equal-or-not}
 pub head-at : (i : ℕ) (l : List ℕ) → getD (drop i l) 0 0 ≡ getD l i 0
 head-at i l = rw (add-zero i) at (getD-drop i l 0 0)
 
--- A part of a list whose elements are changed is the part of the list, changed.
+-- Changing each element and taking a part come to the same in either order.
 pub take-map : (f : ℕ → ℕ) (n : ℕ) (xs : List ℕ) → take n (map f xs) ≡ map f (take n xs)
 take-map f zero xs = refl
 take-map f (suc n) [] = refl

@@ -1,7 +1,7 @@
 -- Small letters count as their capitals: of a message's capital form each definition gives what it gives of the message as typed.
 use mathlib.Core.Path.{_≡_, refl, sym, ap, _∙_}
 use Prim.Native.Nat.{ℕ, suc, _+_}
-use mathlib.Core.List.{List, [], _∷_, _++_, map, map-append}
+use mathlib.Core.List.{List, [], _∷_, _++_, map-append}
 use lib.ListN.{length, getD, length-map, List·getD-map}
 use Rattle.basics.proofs.ListLaws.{firstFailing-map}
 use Rattle.message.specs.Character.{capital, capitalForm, setAt, legalAt, firstBad, digitAt, characterAt, overPlaces, digitsFrom, charactersFrom}
@@ -40,10 +40,10 @@ digits-capitals place [] = refl
 digits-capitals place (b ∷ bs) = rw (digit-capital place b, digits-capitals (suc place) bs)
 
 -- What is written of digits is in capitals.
-pub characters-capitals : (place : ℕ) (ds : List ℕ) → capitalForm (charactersFrom place ds) ≡ charactersFrom place ds
+pub characters-in-capitals : (place : ℕ) (ds : List ℕ) → capitalForm (charactersFrom place ds) ≡ charactersFrom place ds
 unfolding charactersFrom overPlaces characterAt
-characters-capitals place [] = refl
-characters-capitals place (d ∷ ds) = rw (capital-character (setAt place .lowest + d), characters-capitals (suc place) ds)
+characters-in-capitals place [] = refl
+characters-in-capitals place (d ∷ ds) = rw (capital-character (setAt place .lowest + d), characters-in-capitals (suc place) ds)
 
 -- ---- Messages
 

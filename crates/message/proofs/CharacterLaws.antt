@@ -3,12 +3,11 @@ use mathlib.Core.Path.{_≡_, refl, sym, ap, _∙_, subst}
 use Prim.Native.Nat.{ℕ, zero, suc, _+_, _-_, _≤_, _<_}
 use native.Mathlib.Nat.{add-zero, add-sub-of-le, add-sub-cancel-left}
 use native.Mathlib.Omega.{arith}
-use mathlib.Core.Bool.{Bool, true, false, cond, not}
+use mathlib.Core.Bool.{Bool, true, false, cond}
 use mathlib.Core.List.{List, [], _∷_, _++_}
 use lib.Dec.{eqb, leb, ltb}
 use lib.ListN.{length, getD, List·getD-eq-default}
-use lib.Bits.{bitAnd}
-use borrow.Author.Tests.{not-true, le-leb, lt-ltb, le-ltb, leb-true, ltb-true, eqb-true, ne-eqb}
+use borrow.Author.Tests.{le-leb, lt-ltb, le-ltb, leb-true, ltb-true, eqb-true, ne-eqb}
 use Rattle.basics.specs.Test.{between}
 use Rattle.radix.specs.Numeral.{Digits}
 use Rattle.basics.proofs.Tables.{every-at, below-at}
@@ -30,27 +29,24 @@ pub capital-after : {b : ℕ} → 123 ≤ b → capital b ≡ b
 unfolding capital
 capital-after {b} h = rw (between-above 97 122 b (omega arith) (omega arith))
 
--- A capital is its own: no small letter is one.
+-- A byte is its own capital, or a small letter.
+capital-cases : {P : Type 0} (b : ℕ) → (capital b ≡ b → P) → (97 ≤ b → b ≤ 122 → capital b ≡ b - 32 → P) → P
+capital-cases b own small =
+    below-or-not b 97 (λ h. own (capital-before h))
+    (λ h. below-or-not b 123 (λ k. small h (omega arith) (capital-small h (omega arith))) (λ k. own (capital-after k)))
+
+-- The capital of a capital is itself.
 pub capital-capital : (b : ℕ) → capital (capital b) ≡ capital b
-capital-capital b =
-    below-or-not b 97 (λ h. ap capital (capital-before h))
-    (λ h. below-or-not b 123 (λ k. capital-before (omega (arith, capital-small h (omega arith)))) (λ k. ap capital (capital-after k)))
+capital-capital b = capital-cases b (λ e. ap capital e) (λ h k e. capital-before (omega arith))
 
--- Where the capital is no letter, the byte is none.
+-- A byte whose capital lies below the letters is its own capital.
 pub capital-no-letter : (b : ℕ) → capital b < 65 → b ≡ capital b
-capital-no-letter b c =
-    below-or-not b 97 (λ h. sym (capital-before h))
-    (λ h. below-or-not b 123 (λ k. absurd (omega (arith, capital-small h (omega arith)))) (λ k. sym (capital-after k)))
-
-pub capital-past-digits : (b : ℕ) → 58 ≤ b → 58 ≤ capital b
-capital-past-digits b h = below-or-not (capital b) 58 (λ k. absurd (omega (arith, capital-no-letter b (omega arith)))) (λ k. k)
+capital-no-letter b below = capital-cases b (λ e. sym e) (λ h k e. absurd (omega arith))
 
 capital-most : (b : ℕ) → capital b ≤ b
-capital-most b =
-    below-or-not b 97 (λ h. omega (arith, capital-before h))
-    (λ h. below-or-not b 123 (λ k. omega (arith, capital-small h (omega arith))) (λ k. omega (arith, capital-after k)))
+capital-most b = capital-cases b (λ e. omega arith) (λ h k e. omega arith)
 
--- A test that no letter passes, nor a byte after the letters, says the same of a byte and of its capital.
+-- A test that no byte from A on passes says the same of a byte and of its capital.
 pub capital-test : (test : ℕ → Bool) → ((b : ℕ) → 65 ≤ b → test b ≡ false) → (b : ℕ) → test (capital b) ≡ test b
 capital-test test none b =
     below-or-not (capital b) 65 (λ h. ap test (sym (capital-no-letter b h)))
@@ -58,27 +54,6 @@ capital-test test none b =
 
 pub capital-space : (b : ℕ) → eqb (capital b) 32 ≡ eqb b 32
 capital-space b = capital-test (λ (c : ℕ). eqb c 32) (λ c h. ne-eqb c 32 (λ e. omega arith)) b
-
--- Without the bit of 32, in which alone a small letter differs from its capital, a byte is a capital letter exactly where its capital is
--- one, and is then that: one test of all bytes.
-abbrev pub letterIn : ℕ → ℕ
-letterIn b = bitAnd b 0xDF
-
-foldedRight : ℕ → Bool
-unfolding capital
-foldedRight b = cond (between 65 90 (letterIn b)) (eqb (capital b) (letterIn b)) (not (between 65 90 (capital b)))
-
-folded-right : (b : ℕ) → b < 256 → foldedRight b ≡ true
-unfolding capital foldedRight
-folded-right b h = below-at foldedRight 256 refl b h
-
-pub folded-letter : (b : ℕ) → b < 256 → 65 ≤ letterIn b → letterIn b ≤ 90 → capital b ≡ letterIn b
-unfolding foldedRight
-folded-letter b h low high = eqb-true _ _ (rw (between-true 65 90 (letterIn b) low high) at (folded-right b h))
-
-pub folded-other : (b : ℕ) → b < 256 → between 65 90 (letterIn b) ≡ false → between 65 90 (capital b) ≡ false
-unfolding foldedRight
-folded-other b h e = not-true _ (rw e at (folded-right b h))
 
 -- ---- A byte's class, which is that of its capital
 
@@ -105,7 +80,7 @@ module _ (b : ℕ) where
   unfolding value
   value-other h e = rw (between-above 48 57 (capital b) (omega arith) (omega arith), e, ne-eqb (capital b) 32 (λ s. omega arith))
 
--- A small letter has the value of its capital, and no other byte another value than before.
+-- A byte has the value of its capital.
 pub value-capital : (b : ℕ) → value (capital b) ≡ value b
 unfolding value
 value-capital b = rw (capital-capital b)

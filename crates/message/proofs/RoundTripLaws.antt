@@ -58,7 +58,7 @@ pack-unpack word power e =
     ∙ ap WordAnswer.Word (rw (callsignNumber-callsignWithNumber n (r .callsign), locatorNumber-locatorWithNumber m1 (r .locator), r .is-power) (word-of-parts word (r .bits)))
 
 -- So what is read is in capitals: it packs to its word, which reads as its capital form.
-pub read-in-capitals : (word power : ℕ) → wordMessage word ≡ MessageAnswer.Power power
+read-in-capitals : (word power : ℕ) → wordMessage word ≡ MessageAnswer.Power power
     → (capitalForm (callsignOf word) ≡ callsignOf word) × (capitalForm (locatorOf word) ≡ locatorOf word)
 read-in-capitals word power e =
     let back = unpack-pack (callsignOf word) (locatorOf word) power word (pack-unpack word power e) in

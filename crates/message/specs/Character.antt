@@ -13,7 +13,7 @@ use Rattle.basics.specs.Lists.{firstFailing}
 unfoldable pub capital : ℕ → ℕ
 capital byte = cond (between 97 122 byte) (byte - 32) byte
 
--- The "capital form" of a callsign or a locator
+-- The "capital form" of a callsign, a locator or a line
 abbrev pub capitalForm : List ℕ → List ℕ
 capitalForm bytes = map capital bytes
 

@@ -29,7 +29,7 @@ PacksBack (MessageAnswer.Power p) word callsign locator = messagePacked callsign
 PacksBack (MessageAnswer.Refused f) word callsign locator = Unit
 
 -- "readers write capitals only": where the answer has a power, the callsign and the locator that were written are their own capital forms.
--- So do the writers of telemetry, whose answers are of this kind too.
+-- The writers of telemetry promise it too: their answers are of this kind.
 abbrev pub WrittenInCapitals : MessageAnswer → List ℕ → List ℕ → Type 0
 WrittenInCapitals (MessageAnswer.Power p) callsign locator = (capitalForm callsign ≡ callsign) × (capitalForm locator ≡ locator)
 WrittenInCapitals (MessageAnswer.Refused f) callsign locator = Unit

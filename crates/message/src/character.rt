@@ -16,18 +16,16 @@ pub fn capital_of(byte: u8) -> u8
 }
 
 // Digits count 0 to 9, letters 10 to 35, small ones as their capitals, the space 36; any other byte
-// 37. A small letter and its capital differ in one bit alone, so that one test without it finds both.
+// 37.
 fn value_of(byte: u8) -> u64
     ensures { λ r. ⌜ r ≡ value byte ⌝ }
 {
-    let letter = byte & 0xDF;
-    match letter {
-        b'A'..=b'Z' => (letter - b'A') as u64 + 10,
-        _ => match byte {
-            b'0'..=b'9' => (byte - b'0') as u64,
-            b' ' => 36,
-            _ => 37,
-        },
+    match byte {
+        b'0'..=b'9' => (byte - b'0') as u64,
+        b'A'..=b'Z' => (byte - b'A') as u64 + 10,
+        b'a'..=b'z' => (byte - b'a') as u64 + 10,
+        b' ' => 36,
+        _ => 37,
     }
 }
 

@@ -63,10 +63,10 @@ read-within-steps m power e =
     rw (read-write m power e) (quantised-within-steps m (in-range basicFirst m (range-of-written m power e .0)))
 
 -- What is written is in capitals.
-pub written-capitals : (m : Measured) (power : ℕ) → measuredMessage m ≡ MessageAnswer.Power power
+written-in-capitals : (m : Measured) (power : ℕ) → measuredMessage m ≡ MessageAnswer.Power power
     → (capitalForm (measuredCallsign m) ≡ measuredCallsign m) × (capitalForm (measuredLocator m) ≡ measuredLocator m)
 unfolding measuredCallsign measuredLocator
-written-capitals m power e = U4b.written-capitals basicFirst (payloadFrom basicBit m) power (range-of-written m power e .1)
+written-in-capitals m power e = U4b.written-in-capitals basicFirst (payloadFrom basicBit m) power (range-of-written m power e .1)
 
 -- ---- What was read writes the capital form back
 
@@ -85,7 +85,7 @@ write-read callsign locator power r e =
       its-locator = rw again (w .its-locator);
     })
 
--- ---- The reader refuses exactly what in capitals the writer never makes
+-- ---- The reader refuses exactly the messages whose capital form the writer never makes
 
 pub refuses-exactly : (callsign locator : List ℕ) (power : ℕ) → TelemetryRefusedExactly (telemetryRead callsign locator power) callsign locator power
 refuses-exactly callsign locator power = (λ refused m w. never refused m w, λ never-written. exact (telemetryRead callsign locator power) refl never-written)
@@ -156,7 +156,7 @@ module _ (callsign locator : List ℕ) (m : Measured) where
   in-capitals : (answer : MessageAnswer) → telemetryWritten callsign locator m ≡ answer
       → WrittenInCapitals answer (contentAfter answer callsign (measuredCallsign m)) (contentAfter answer locator (measuredLocator m))
   unfolding contentAfter
-  in-capitals (MessageAnswer.Power power) e = written-capitals m power (measured-of-written callsign locator m power e)
+  in-capitals (MessageAnswer.Power power) e = written-in-capitals m power (measured-of-written callsign locator m power e)
   in-capitals (MessageAnswer.Refused f) e = tt
 
   pub write-promised : (answer : MessageAnswer) → telemetryWritten callsign locator m ≡ answer

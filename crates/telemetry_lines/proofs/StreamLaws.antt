@@ -1,21 +1,24 @@
--- Laws of an input in parts: cutting it anywhere changes nothing, its output has room, and one turn of the loop over it.
+-- Laws of an input in parts: cutting it anywhere changes nothing, nor do small letters, its output has room, and one turn of the loop over
+-- it.
 use mathlib.Core.Path.{_≡_, refl, sym, ap, _∙_}
 use Prim.Native.Nat.{ℕ, _+_, _*_, _≤_, _<_}
 use native.Mathlib.Numerals.{add-one}
 use native.Mathlib.Omega.{arith}
-use mathlib.Core.List.{List, [], _∷_, _++_, append-assoc, append-nil, flatten}
+use mathlib.Core.List.{List, [], _∷_, _++_, append-assoc, append-nil, map-append, flatten}
 use lib.Dec.{eqb}
 use lib.ListN.{length, getD, take, length-append}
 use lib.Seq.{take-suc, take-all, take-take, length-take-le}
 use borrow.Author.Tests.{eq-eqb, ne-eqb}
 use Rattle.basics.proofs.Choice.{by-test, cond-both}
+use Rattle.message.specs.Character.{capital, capitalForm}
+use Rattle.message.proofs.CharacterLaws.{capital-test}
 use Rattle.telemetry_lines.specs.Text.{newline, answerText, header, longestLine}
 use Rattle.telemetry_lines.specs.Line.{lineAnswer, lineText}
 use Rattle.telemetry_lines.specs.Stream.{mostKept, lineAfter, outputAfter, lastText, outputOf, outputInParts}
 use Rattle.telemetry_lines.specs.Buffer.{Put}
 use Rattle.telemetry_lines.proofs.PutLaws.{put-none, put-then, put-length}
 use Rattle.telemetry_lines.proofs.TextLaws.{length-answer}
-use Rattle.telemetry_lines.proofs.LineLaws.{kept-text, kept-more}
+use Rattle.telemetry_lines.proofs.LineLaws.{line-capitals, kept-text, kept-more}
 
 -- ---- Two parts, one after the other
 
@@ -34,6 +37,42 @@ output-cut line (x ∷ xs) ys =
     by-test (eqb x newline)
     (λ e. rw (e, output-cut [] xs ys) (sym (append-assoc (lineText line) (outputAfter [] xs) (outputAfter (lineAfter [] xs) ys))))
     (λ e. rw e (output-cut (line ++ (x ∷ [])) xs ys))
+
+-- ---- Small letters count as their capitals
+
+newline-test : (b : ℕ) → eqb (capital b) newline ≡ eqb b newline
+newline-test b = capital-test (λ (c : ℕ). eqb c newline) (λ c h. ne-eqb c newline (λ e. omega arith)) b
+
+line-begun-capitals : (line xs : List ℕ) → lineAfter (capitalForm line) (capitalForm xs) ≡ capitalForm (lineAfter line xs)
+unfolding lineAfter
+line-begun-capitals line [] = refl
+line-begun-capitals line (x ∷ xs) =
+    by-test (eqb x newline)
+    (λ e. rw (newline-test x, e) (line-begun-capitals [] xs))
+    (λ e. rw (newline-test x, e, ← map-append capital line (x ∷ [])) (line-begun-capitals (line ++ (x ∷ [])) xs))
+
+text-capitals : (line : List ℕ) → lineText (capitalForm line) ≡ lineText line
+unfolding lineText
+text-capitals line = ap answerText (line-capitals line)
+
+output-after-capitals : (line xs : List ℕ) → outputAfter (capitalForm line) (capitalForm xs) ≡ outputAfter line xs
+unfolding outputAfter
+output-after-capitals line [] = refl
+output-after-capitals line (x ∷ xs) =
+    by-test (eqb x newline)
+    (λ e. rw (newline-test x, e, text-capitals line, output-after-capitals [] xs))
+    (λ e. rw (newline-test x, e, ← map-append capital line (x ∷ [])) (output-after-capitals (line ++ (x ∷ [])) xs))
+
+last-capitals : (line : List ℕ) → lastText (capitalForm line) ≡ lastText line
+unfolding lastText
+last-capitals [] = refl
+last-capitals (b ∷ bs) = text-capitals (b ∷ bs)
+
+-- The output for an input is that for its capital form.
+pub output-capitals : (input : List ℕ) → outputOf (capitalForm input) ≡ outputOf input
+unfolding outputOf
+output-capitals input =
+    rw (output-after-capitals [] input, line-begun-capitals [] input, last-capitals (lineAfter [] input))
 
 -- ---- One byte more
 

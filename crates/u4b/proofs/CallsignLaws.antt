@@ -15,7 +15,7 @@ use Rattle.radix.specs.Numeral.{Digits, Positive, count, numberOf, digitsOf}
 use Rattle.radix.proofs.Laws.{digits-in-range, digitsOf-numberOf, numberOf-digitsOf-mod}
 use Rattle.message.specs.Character.{capital, capitalForm, value, character, setAt, callsignSets, locatorSets, legalAt, digitAt, characterAt, overPlaces, digitsFrom, charactersFrom, DigitsAt}
 use Rattle.message.proofs.CharacterLaws.{AllLegal, capital-before, capital-no-letter, value-digit, character-digit, character-letter, character-space, character-value, legal-from, legal-end, digits-of-legal, characters-of-digits, legal-of-digits, digits-of-characters}
-use Rattle.message.proofs.CapitalLaws.{characters-capitals}
+use Rattle.message.proofs.CapitalLaws.{characters-in-capitals}
 use Rattle.u4b.specs.Channel.{isFirstCharacter, isThirdCharacter, channelOf}
 use Rattle.u4b.specs.Alphabet.{takenAt, firstNotTaken}
 use Rattle.u4b.specs.Characters.{upperRadices, callsignWith, upperDigits, upperOf}
@@ -121,12 +121,12 @@ module _ (channel : Channel) (a : ℕ) where
       (taken, (characters .1 .0, (third, characters .1 .1 .1)))
 
   module _ (taken : FirstCharacters) (is-first : isFirstCharacter taken (channel .first) ≡ true) where
-    pub callsignWith-capitals : isThirdCharacter (channel .third) ≡ true → capitalForm (callsignWith channel a) ≡ callsignWith channel a
+    pub callsignWith-in-capitals : isThirdCharacter (channel .third) ≡ true → capitalForm (callsignWith channel a) ≡ callsignWith channel a
     unfolding callsignWith charactersFrom overPlaces
-    callsignWith-capitals is-third =
+    callsignWith-in-capitals is-third =
         rw (first-capital taken (channel .first) is-first, third-capital (channel .third) is-third)
         (ap (λ (l : List ℕ). channel .first ∷ getD l 1 0 ∷ channel .third ∷ getD l 3 0 ∷ getD l 4 0 ∷ getD l 5 0 ∷ [])
-        (characters-capitals 0 (sixDigits (digitsOf upperRadices a))))
+        (characters-in-capitals 0 (sixDigits (digitsOf upperRadices a))))
 
     pub channelOf-callsignWith : isThirdCharacter (channel .third) ≡ true → channelOf (callsignWith channel a) ≡ channel
     unfolding callsignWith

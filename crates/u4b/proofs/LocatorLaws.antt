@@ -11,7 +11,7 @@ use Rattle.power.specs.Powers.{powerIndex, legalPower}
 use Rattle.power.proofs.Laws.{powerAt-powerIndex, powerIndex-powerAt, legal-index, legal-powerAt}
 use Rattle.message.specs.Character.{capitalForm, setAt, callsignSets, locatorSets, digitsFrom, DigitsAt}
 use Rattle.message.proofs.CharacterLaws.{AllLegal, characters-of-digits, legal-of-digits, digits-of-characters, length-charactersFrom}
-use Rattle.message.proofs.CapitalLaws.{characters-capitals}
+use Rattle.message.proofs.CapitalLaws.{characters-in-capitals}
 use Rattle.message.proofs.WordLaws.{locator-in-sets}
 use Rattle.u4b.specs.Characters.{lowerRadices, locatorWith, powerWith, lowerOf}
 
@@ -52,9 +52,9 @@ pub locatorWith-legal : (b : ℕ) → AllLegal 6 (locatorWith b)
 unfolding locatorWith
 locatorWith-legal b = legal-of-digits 6 _ (four-digits-at b)
 
-pub locatorWith-capitals : (b : ℕ) → capitalForm (locatorWith b) ≡ locatorWith b
+pub locatorWith-in-capitals : (b : ℕ) → capitalForm (locatorWith b) ≡ locatorWith b
 unfolding locatorWith
-locatorWith-capitals b = characters-capitals 6 (fourDigits (digitsOf lowerRadices b))
+locatorWith-in-capitals b = characters-in-capitals 6 (fourDigits (digitsOf lowerRadices b))
 
 pub powerWith-legal : (b : ℕ) → legalPower (powerWith b) ≡ true
 unfolding powerWith

@@ -1,7 +1,6 @@
 -- The round trips between a payload and its message, and that the reader refuses exactly the messages whose capital form the writer never
 -- makes.
 use mathlib.Core.Path.{_≡_, refl, sym, ap, _∙_}
-use mathlib.Core.Logic.{_↔_}
 use Prim.Native.Nat.{ℕ, _<_}
 use native.Mathlib.Nat.{mod-eq-of-lt}
 use native.Mathlib.Omega.{arith}
@@ -18,8 +17,8 @@ use Rattle.u4b.specs.RoundTrip.{writtenPart, PayloadWritesAs, PayloadRea
 use Rattle.u4b.specs.declared.channel.FirstCharacters.{FirstCharacters}
 use Rattle.u4b.specs.declared.Payload.{Payload}
 use Rattle.u4b.specs.declared.PayloadAnswer.{PayloadAnswer}
-use Rattle.u4b.proofs.CallsignLaws.{upper-count, first-legal, third-legal, callsignWith-length, callsignWith-legal, callsignWith-capitals, channelOf-callsignWith, callsignWith-taken, upperOf-callsignWith, first-of, third-of, callsignWith-upperOf}
-use Rattle.u4b.proofs.LocatorLaws.{lower-count, locatorWith-length, locatorWith-legal, locatorWith-capitals, powerWith-legal, lowerOf-locatorWith, locatorWith-lowerOf, powerWith-lowerOf}
+use Rattle.u4b.proofs.CallsignLaws.{upper-count, first-legal, third-legal, callsignWith-length, callsignWith-legal, callsignWith-in-capitals, channelOf-callsignWith, callsignWith-taken, upperOf-callsignWith, first-of, third-of, callsignWith-upperOf}
+use Rattle.u4b.proofs.LocatorLaws.{lower-count, locatorWith-length, locatorWith-legal, locatorWith-in-capitals, powerWith-legal, lowerOf-locatorWith, locatorWith-lowerOf, powerWith-lowerOf}
 use Rattle.u4b.proofs.AnswerLaws.{Writable, writable, message-power, message-of-written, read-payload, readable, read-capitals}
 
 -- ---- What was written reads back
@@ -57,12 +56,12 @@ read-write taken p power e =
     rw (w .is-power) (written-read taken p power w)
 
 -- What is written is in capitals.
-pub written-capitals : (taken : FirstCharacters) (p : Payload) (power : ℕ) → payloadMessage taken p ≡ MessageAnswer.Power power
+pub written-in-capitals : (taken : FirstCharacters) (p : Payload) (power : ℕ) → payloadMessage taken p ≡ MessageAnswer.Power power
     → (capitalForm (payloadCallsign p) ≡ payloadCallsign p) × (capitalForm (payloadLocator p) ≡ payloadLocator p)
 unfolding payloadCallsign payloadLocator
-written-capitals taken p power e =
+written-in-capitals taken p power e =
     let w = writable taken p power e in
-    (callsignWith-capitals (p .channel) (p .upper) taken (w .is-first) (w .is-third), locatorWith-capitals (p .lower))
+    (callsignWith-in-capitals (p .channel) (p .upper) taken (w .is-first) (w .is-third), locatorWith-in-capitals (p .lower))
 
 -- ---- What was read writes the capital form back
 
@@ -81,7 +80,7 @@ write-read taken callsign locator power p e =
       its-locator = locatorWith-lowerOf locator power (l .four) (l .locator-legal) (l .power-legal);
     })
 
--- ---- The reader refuses exactly what in capitals the writer never makes
+-- ---- The reader refuses exactly the messages whose capital form the writer never makes
 
 pub refuses-exactly : (taken : FirstCharacters) (callsign locator : List ℕ) (power : ℕ)
     → PayloadRefusedExactly (payloadRead taken callsign locator power) taken callsign locator power
@@ -117,7 +116,7 @@ module _ (taken : FirstCharacters) (callsign locator : List ℕ) (p : Payload) w
   in-capitals : (answer : MessageAnswer) → payloadWritten taken callsign locator p ≡ answer
       → WrittenInCapitals answer (contentAfter answer callsign (payloadCallsign p)) (contentAfter answer locator (payloadLocator p))
   unfolding contentAfter
-  in-capitals (MessageAnswer.Power power) e = written-capitals taken p power (message-of-written taken callsign locator p power e)
+  in-capitals (MessageAnswer.Power power) e = written-in-capitals taken p power (message-of-written taken callsign locator p power e)
   in-capitals (MessageAnswer.Refused f) e = tt
 
   pub write-promised : (answer : MessageAnswer) → payloadWritten taken callsign locator p ≡ answer
