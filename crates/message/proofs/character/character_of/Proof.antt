@@ -1,6 +1,7 @@
 -- `message::character::character_of` meets its contract: each branch is a case of the definition.
 -- Assumes nothing.
 use mathlib.Core.Path.{sym}
+use native.Mathlib.Omega.{arith}
 use Rattle.message.proofs.CharacterLaws.{character-digit, character-letter, character-space}
 use borrow.Author.Needs.{needs}
 use Rattle.message.proofs.character.character_of.Statement.{statement}
@@ -25,7 +26,7 @@ returns : tie.Need-returns
 returns c = sym (character-digit (c .if1 .taken))
 
 returns-2 : tie.Need-returns-2
-returns-2 c = sym (character-letter (c .before .if1 .left) (c .if2 .taken))
+returns-2 c = omega (arith, character-letter (c .before .if1 .left) (c .if2 .taken))
 
 returns-3 : tie.Need-returns-3
 returns-3 c = sym (character-space (c .if2 .left))
