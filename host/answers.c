@@ -157,7 +157,7 @@ const output plain_output = {
     plain_message,
     plain_frame,
     plain_report,
-    {"word ", "; message ", "; telemetry ", "; disagreements ", "; live ", "; sync wrong ", ""},
+    {"word ", "; message ", "; telemetry ", "; disagreements ", "; live ", "; sync wrong ", "; margin ", ""},
 };
 
 const output json_output = {
@@ -166,7 +166,7 @@ const output json_output = {
     json_frame,
     json_report,
     {"{\"word\":\"", "\",\"message\":", ",\"telemetry\":", ",\"disagreements\":", ",\"live\":", ",\"sync_wrong\":",
-     "}"},
+     ",\"margin\":", "}"},
 };
 
 static void print_telemetry(const output *out, const u4b_reading *telemetry)
@@ -187,6 +187,7 @@ void print_repair(const output *out, const wspr_repaired *r, const message *m, c
         out->message(m);
         print_telemetry(out, telemetry);
     }
-    printf("%s%" PRIu32 "%s%" PRIu32 "%s%" PRIu32 "%s", out->repair.disagreements, r->disagreements, out->repair.live,
-           r->live, out->repair.sync_wrong, r->sync_wrong, out->repair.end);
+    printf("%s%" PRIu32 "%s%" PRIu32, out->repair.disagreements, r->disagreements, out->repair.live, r->live);
+    printf("%s%" PRIu32 "%s%" PRIu32 "%s", out->repair.sync_wrong, r->sync_wrong, out->repair.margin, r->margin,
+           out->repair.end);
 }

@@ -32,7 +32,7 @@ typedef struct {
     void (*frame)(const message *m, uint64_t word, const uint8_t *frame);
     void (*report)(const u4b_reading *r);
     struct {
-        const char *word, *message, *telemetry, *disagreements, *live, *sync_wrong, *end;
+        const char *word, *message, *telemetry, *disagreements, *live, *sync_wrong, *margin, *end;
     } repair;
 } output;
 

@@ -92,11 +92,12 @@ typedef struct {
 } wspr_message;
 
 /* The word nearest to a received frame: its disagreements in data bits, 0 to 12; the live count in prefixes, 81 to
- * 65,536; the number of symbols whose sync bit is wrong, 0 to 162. */
+ * 65,536; the number of symbols whose sync bit is wrong, 0 to 162; and the margin in data bits, 1 to 13: how many more
+ * disagreements the next nearest word has. */
 typedef struct {
     uint32_t refusal, place;
     uint64_t word;
-    uint32_t disagreements, live, sync_wrong;
+    uint32_t disagreements, live, sync_wrong, margin;
 } wspr_repaired;
 
 /* What telemetry says, in the units in which it is read: metres, degrees, millivolts, knots. */
@@ -148,10 +149,14 @@ wspr_message wspr_read_message(const uint8_t *frame, size_t frame_len, uint8_t *
  * limits up to 7, with 65,536 at limits up to 9, and at limits 10 to 12 with none. So use limits up to 9. A frame with
  * flipped data bits can have a lower or a higher live count.
  *
+ * The margin: every other word has at least so many more disagreements than the answer. Where another word is within the
+ * limit, the next nearest has exactly so many more. Where none is, the next is taken as limit + 1, so that the margin
+ * grows with the limit: it says how far was looked, and other words may be further away than that.
+ *
  * Refusals 1, 15, 7, 16, 17, 18, in that order. Sync bits never refuse a repair: the wrong ones are counted. Whichever
  * word was sent, and whichever of its frame's data bits were flipped, two at most, limit 2 and budget 16,000 give it
- * back, with the number of flipped bits as its disagreements. A repaired word need not be a message's: wspr_unpack
- * turns it into its message, or refuses. */
+ * back, with the number of flipped bits as its disagreements and 3 less that number as its margin. A repaired word need
+ * not be a message's: wspr_unpack turns it into its message, or refuses. */
 wspr_repaired wspr_repair(const uint8_t *frame, size_t frame_len, uint32_t limit, uint32_t budget);
 
 /* The message of a telemetry report: writes its callsign and locator, returns its power. Each reading is rounded down

@@ -1,14 +1,43 @@
--- Laws of the nearest word: what the fewest disagreements are, when one word alone has them, and when words share them.
-use mathlib.Core.Path.{_≡_, sym}
-use Prim.Native.Nat.{ℕ, _-_, _^_, _≤_, _<_}
+-- Laws of the nearest word: what the fewest disagreements are, when one word alone has them, and when words share them; and of its margin:
+-- what the next fewest are, and that they leave one margin.
+use mathlib.Core.Path.{_≡_, sym, _∙_}
+use mathlib.Core.Logic.{inl, inr, ⊎-elim}
+use Prim.Native.Nat.{ℕ, suc, _+_, _-_, _^_, _≤_, _<_}
 use native.Mathlib.Omega.{arith}
 use mathlib.Core.Bool.{true}
 use mathlib.Core.List.{List}
-use borrow.Author.Tests.{eq-eqb, eqb-true}
+use borrow.Author.Tests.{eq-eqb, eqb-true, lt-ltb, le-ltb, le-leb, lt-leb}
 use Rattle.basics.proofs.BelowLaws.{count-two, count-only, count-found-two, count-single, last-single, least-below, least-reached}
 use Rattle.basics.proofs.Choice.{below-or-not, equal-or-not}
 use Rattle.distance.specs.Prefixes.{wordDisagreements}
-use Rattle.distance.specs.Nearest.{fewest, hasFewest, sharing, nearestWord, AtMostAll, OnlyNearest}
+use Rattle.distance.specs.Nearest.{fewest, hasFewest, sharing, nearestWord, otherThan, fewestOfOthers, nextFewest, margin, AtMostAll, OnlyNearest, IsMargin}
+
+-- ---- The numbers other than one
+
+module _ (n : ℕ) where
+  lower-other : (i : ℕ) → i < n → otherThan n i ≡ i
+  unfolding otherThan
+  lower-other i h = rw (lt-ltb i n h)
+
+  upper-other : (i : ℕ) → n ≤ i → otherThan n i ≡ i + 1
+  unfolding otherThan
+  upper-other i h = rw (le-ltb i n h)
+
+  other-different : (i : ℕ) → otherThan n i ≡ n → ⊥
+  other-different i e = below-or-not i n (λ h. omega (arith, lower-other i h)) (λ h. omega (arith, upper-other i h))
+
+  -- Below a bound there is one fewer of them, and each has its place.
+  other-below : (bound i : ℕ) → i + 1 < bound → otherThan n i < bound
+  other-below bound i k = below-or-not i n (λ h. omega (arith, lower-other i h)) (λ h. omega (arith, upper-other i h))
+
+  other-place : (bound other : ℕ) → n < bound → other < bound → (other ≡ n → ⊥) → (i : ℕ) × ((i + 1 < bound) × (otherThan n i ≡ other))
+  other-place bound other h k different =
+      below-or-not other n
+      (λ lower. (other, (omega arith, lower-other other lower)))
+      (λ no-lower.
+      below-or-not n other
+      (λ higher. let same : other - 1 + 1 ≡ other = omega arith in (other - 1, (omega arith, upper-other (other - 1) (omega arith) ∙ same)))
+      (λ no-higher. absurd (different (omega arith))))
 
 module _ (received : List ℕ) where
   -- ---- The fewest
@@ -103,3 +132,97 @@ module _ (received : List ℕ) where
       let less : v < w = found .1 .1 .0 in
       let below : w < 2 ^ 50 = found .1 .1 .1 .0 in
       (v, (w, ((λ same. absurd (omega arith)), (at-most-all v (omega arith) (found .1 .1 .1 .1 .0), at-most-all w below (found .1 .1 .1 .1 .1)))))
+
+-- ---- The margin
+
+-- The next fewest disagreements, up to limit + 1, less the word's own are its margin.
+pub margin-to : (received : List ℕ) (limit word next : ℕ) → wordDisagreements received word ≤ next → next ≤ limit + 1
+    → ((other : ℕ) → other < 2 ^ 50 → (other ≡ word → ⊥) → next ≤ wordDisagreements received other)
+    → (next ≤ limit → (other : ℕ) × ((other < 2 ^ 50) × ((other ≡ word → ⊥) × (wordDisagreements received other ≡ next))))
+    → IsMargin received limit word (next - wordDisagreements received word)
+margin-to received limit word next from most least found =
+    record {
+      at-least = λ other h different. omega (arith, least other h different);
+      exactly =
+          below-or-not limit next
+          (λ past.
+          inr (record {
+            no-other = λ other h different. omega (arith, least other h different);
+            up-to-limit = omega arith;
+          }))
+          (λ within.
+          let there = found within in
+          inl (record {
+            next = there .0;
+            next-word = there .1 .0;
+            different = there .1 .1 .0;
+            more = omega (arith, there .1 .1 .1);
+            within-limit = omega (arith, there .1 .1 .1);
+          }));
+    }
+
+module _ (received : List ℕ) (limit word : ℕ) (only : OnlyNearest received word) where
+  abbrev of : ℕ → ℕ
+  of other = wordDisagreements received other
+
+  -- ---- The fewest of the others
+
+  others-below : (other : ℕ) → other < 2 ^ 50 → (other ≡ word → ⊥) → fewestOfOthers received ≤ of other
+  unfolding fewestOfOthers
+  others-below other h different =
+      let at = other-place word (2 ^ 50) other (only .0) h different in
+      rw (nearest-only received word only, ← at .1 .1)
+      (least-below (2 ^ 50 - 2) (λ i. of (otherThan word i)) (at .0) (omega (arith, at .1 .0)))
+
+  others-reached : (other : ℕ) × ((other < 2 ^ 50) × ((other ≡ word → ⊥) × (of other ≡ fewestOfOthers received)))
+  unfolding fewestOfOthers
+  others-reached =
+      rw (nearest-only received word only)
+      (let found = least-reached (2 ^ 50 - 2) (λ i. of (otherThan word i)) in
+      (otherThan word (found .0), (other-below word (2 ^ 50) (found .0) (omega (arith, found .1 .0)), (other-different word (found .0), found .1 .1))))
+
+  others-from : (n : ℕ) → ((other : ℕ) → other < 2 ^ 50 → (other ≡ word → ⊥) → n ≤ of other) → n ≤ fewestOfOthers received
+  others-from n least =
+      let found = others-reached in
+      omega (arith, least (found .0) (found .1 .0) (found .1 .1 .0), found .1 .1 .1)
+
+  -- ---- The next fewest
+
+  next-others : fewestOfOthers received ≤ limit → nextFewest received limit ≡ fewestOfOthers received
+  unfolding nextFewest
+  next-others within = rw (le-leb (fewestOfOthers received) limit within)
+
+  next-limit : limit < fewestOfOthers received → nextFewest received limit ≡ limit + 1
+  unfolding nextFewest
+  next-limit past = rw (lt-leb (fewestOfOthers received) limit past)
+
+  -- ---- The margin defined is the margin of the nearest word, where this is within the limit, and the only one
+
+  pub margin-is : of word ≤ limit → IsMargin received limit word (margin received limit)
+  unfolding margin
+  margin-is near =
+      rw (fewest-only received word only)
+      (below-or-not limit (fewestOfOthers received)
+      (λ past.
+      rw (next-limit past)
+      (margin-to received limit word (limit + 1) (omega arith) (omega arith)
+      (λ other h different. omega (arith, others-below other h different))
+      (λ within. absurd (omega arith))))
+      (λ within.
+      rw (next-others within)
+      (margin-to received limit word (fewestOfOthers received)
+      (omega (arith, others-from (suc (of word)) (only .1))) (omega arith) others-below (λ _. others-reached))))
+
+  pub is-margin : (m : ℕ) → IsMargin received limit word m → margin received limit ≡ m
+  unfolding margin
+  is-margin m is =
+      rw (fewest-only received word only)
+      (⊎-elim
+      (λ there.
+      let as-few : fewestOfOthers received ≡ of word + m =
+      omega (arith, others-below (there .next) (there .next-word) (there .different), there .more, others-from (of word + m) (is .at-least)) in
+      rw (next-others (omega (arith, there .more, there .within-limit))) (omega arith))
+      (λ none.
+      let past : limit < fewestOfOthers received = others-from (suc limit) (none .no-other) in
+      rw (next-limit past) (omega (arith, none .up-to-limit)))
+      (is .exactly))

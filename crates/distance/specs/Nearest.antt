@@ -1,9 +1,11 @@
--- The nearest word: "the one with the fewest disagreements of all 2^50" (01, 'Repair').
-use Prim.Native.Nat.{ℕ, _-_, _^_, _≤_, _<_}
+-- The nearest word: "the one with the fewest disagreements of all 2^50" (01, 'Repair'); and its margin: "how many more disagreements the
+-- next nearest word has" (02, L7).
+use Prim.Native.Nat.{ℕ, _+_, _-_, _^_, _≤_, _<_}
 use mathlib.Core.Path.{_≡_}
-use mathlib.Core.Bool.{Bool}
+use mathlib.Core.Logic.{_⊎_}
+use mathlib.Core.Bool.{Bool, cond}
 use mathlib.Core.List.{List}
-use lib.Dec.{eqb}
+use lib.Dec.{eqb, leb, ltb}
 use Rattle.basics.specs.Below.{countBelow, lastBelow, leastUpTo}
 use Rattle.distance.specs.Prefixes.{wordDisagreements}
 
@@ -23,6 +25,24 @@ sharing received = countBelow (2 ^ 50) (hasFewest received)
 unfoldable pub nearestWord : List ℕ → ℕ
 nearestWord received = lastBelow (2 ^ 50) (hasFewest received)
 
+-- The words other than one, numbered from 0 on: those below it, then those above it.
+unfoldable pub otherThan : ℕ → ℕ → ℕ
+otherThan word i = cond (ltb i word) i (i + 1)
+
+-- The fewest disagreements of the 2^50 - 1 words other than the nearest.
+unfoldable pub fewestOfOthers : List ℕ → ℕ
+fewestOfOthers received = leastUpTo (2 ^ 50 - 2) (λ i. wordDisagreements received (otherThan (nearestWord received) i))
+
+-- Those of "the next nearest word". "If no other word is within the limit, that next is taken as limit + 1."
+unfoldable pub nextFewest : List ℕ → ℕ → ℕ
+nextFewest received limit = cond (leb (fewestOfOthers received) limit) (fewestOfOthers received) (limit + 1)
+
+-- "how many more disagreements the next nearest word has"
+unfoldable pub margin : List ℕ → ℕ → ℕ
+margin received limit = nextFewest received limit - fewest received
+
+-- ---- What is asked of a word and of a margin
+
 -- The word has "the fewest disagreements of all 2^50".
 abbrev pub AtMostAll : List ℕ → ℕ → Type 0
 AtMostAll received word =
@@ -32,3 +52,22 @@ AtMostAll received word =
 abbrev pub OnlyNearest : List ℕ → ℕ → Type 0
 OnlyNearest received word =
     (word < 2 ^ 50) × ((other : ℕ) → other < 2 ^ 50 → (other ≡ word → ⊥) → wordDisagreements received word < wordDisagreements received other)
+
+-- Another word has as many more disagreements than the word as the margin says, and is within the limit.
+pub record NextWithin (received : List ℕ) (limit word margin : ℕ) : Type 0 where
+  pub next : ℕ
+  pub next-word : next < 2 ^ 50
+  pub different : next ≡ word → ⊥
+  pub more : wordDisagreements received next ≡ wordDisagreements received word + margin
+  pub within-limit : wordDisagreements received next ≤ limit
+
+-- "no other word is within the limit"; then the next "is taken as limit + 1", and the margin is that less the word's disagreements.
+pub record NoneNext (received : List ℕ) (limit word margin : ℕ) : Type 0 where
+  pub no-other : (other : ℕ) → other < 2 ^ 50 → (other ≡ word → ⊥) → limit < wordDisagreements received other
+  pub up-to-limit : wordDisagreements received word + margin ≡ limit + 1
+
+-- The margin of a word: every other word has at least so many more disagreements, and the next nearest exactly so many.
+pub record IsMargin (received : List ℕ) (limit word margin : ℕ) : Type 0 where
+  pub at-least : (other : ℕ) → other < 2 ^ 50 → (other ≡ word → ⊥)
+      → wordDisagreements received word + margin ≤ wordDisagreements received other
+  pub exactly : NextWithin received limit word margin ⊎ NoneNext received limit word margin

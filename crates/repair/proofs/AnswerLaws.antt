@@ -12,7 +12,7 @@ use Rattle.frame.specs.Symbols.{RightSymbols, receivedBits}
 use Rattle.frame.proofs.SymbolLaws.{none-large}
 use Rattle.distance.specs.Prefixes.{liveCount}
 use Rattle.distance.specs.Nearest.{fewest, sharing, nearestWord}
-use Rattle.distance.proofs.NearestLaws.{fewest-below, fewest-reached, fewest-is, fewest-only, sharing-only, nearest-only, only-nearest, sharing-two, two-sharing}
+use Rattle.distance.proofs.NearestLaws.{fewest-below, fewest-reached, fewest-is, fewest-only, sharing-only, nearest-only, only-nearest, sharing-two, two-sharing, margin-is, is-margin}
 use Rattle.repair.specs.Answer.{nearestWith, nearestOf, nearestWithin, searched, frameRepaired, repairNumbers}
 use Rattle.repair.specs.Demand.{Bounds, IsNearest, NoneWithin, Shared, AsDemanded}
 use Rattle.repair.specs.declared.Nearest.{Nearest}
@@ -117,6 +117,7 @@ module _ (frame : List ℕ) (limit budget : ℕ) where
         within-limit = near;
         live-count = refl;
         wrong-sync = refl;
+        its-margin = margin-is received limit (nearestWord received) only (omega (arith, fewest-only received (nearestWord received) only));
       }
 
   is-nearestOf : (n : Nearest) → IsNearest frame limit n → nearestOf frame limit ≡ n
@@ -124,7 +125,8 @@ module _ (frame : List ℕ) (limit budget : ℕ) where
   is-nearestOf n is =
       let only = is .only-nearest in
       let few = fewest-only received (n .word) only in
-      rw (nearest-only received (n .word) only, few, ← is .its-disagreements, ← is .live-count, ← is .wrong-sync)
+      let close = is-margin received limit (n .word) only (n .margin) (is .its-margin) in
+      rw (nearest-only received (n .word) only, few, close, ← is .its-disagreements, ← is .live-count, ← is .wrong-sync)
 
   word-of : (n : Nearest) → searched frame limit budget ≡ RepairAnswer.Word n → (live ≤ budget) × IsNearest frame limit n
   word-of n =

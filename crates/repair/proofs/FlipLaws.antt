@@ -1,6 +1,6 @@
 -- Flipped data bits: counted in frame order they are the sent word's disagreements in S order; and two of them at most are repaired.
 use mathlib.Core.Path.{_≡_, refl, sym, ap, ap₂, _∙_}
-use Prim.Native.Nat.{ℕ, _^_, _≤_, _<_}
+use Prim.Native.Nat.{ℕ, _-_, _^_, _≤_, _<_}
 use native.Mathlib.Omega.{arith}
 use mathlib.Core.Bool.{not}
 use mathlib.Core.List.{List}
@@ -14,7 +14,8 @@ use Rattle.interleaver.proofs.PlaceLaws.{placeOf-below, indexAt-below, indexAt-
 use Rattle.frame.specs.Symbols.{frameOf, RightSymbols, dataAt, receivedBits}
 use Rattle.frame.proofs.SymbolLaws.{length-receivedBits, getD-receivedBits, received-frameOf}
 use Rattle.distance.specs.Prefixes.{wordDisagreements, liveCount}
-use Rattle.distance.specs.Nearest.{OnlyNearest}
+use Rattle.distance.specs.Nearest.{OnlyNearest, IsMargin}
+use Rattle.distance.proofs.NearestLaws.{margin-to}
 use Rattle.distance.proofs.Bits.{differences-sym, differences-counted}
 use Rattle.distance.proofs.PrefixLaws.{word-disagreements}
 use Rattle.distance.proofs.ZeroWord.{flipped-most, others-further}
@@ -52,13 +53,30 @@ module _ (word : ℕ) (frame : List ℕ) where
     live-most = flipped-most received word 2 (length-receivedBits frame) (omega (arith, flips-disagreements))
 
     -- Any other word is six or more from the sent one, so four or more from what was received.
+    others-far : (other : ℕ) → other < 2 ^ 50 → (other ≡ word → ⊥) → 4 ≤ wordDisagreements received other
+    others-far other k different = omega (arith, others-further received other word (length-receivedBits frame) k h different, flips-disagreements)
+
     others-more : OnlyNearest received word
-    others-more = (h, λ other k different. omega (arith, others-further received other word (length-receivedBits frame) k h different, flips-disagreements))
+    others-more = (h, λ other k different. omega (arith, others-far other k different, flips-disagreements))
+
+    margin-left : IsMargin received 2 word (3 - flips word frame)
+    margin-left =
+        rw flips-disagreements
+        (margin-to received 2 word 3 (omega (arith, flips-disagreements)) (omega arith)
+        (λ other k different. omega (arith, others-far other k different))
+        (λ within. absurd (omega arith)))
 
     given-back-is : IsNearest frame 2 (givenBack word frame 2)
     unfolding givenBack nearestWith
     given-back-is =
-        record { only-nearest = others-more; its-disagreements = flips-disagreements; within-limit = few; live-count = refl; wrong-sync = refl }
+        record {
+          only-nearest = others-more;
+          its-disagreements = flips-disagreements;
+          within-limit = few;
+          live-count = refl;
+          wrong-sync = refl;
+          its-margin = margin-left;
+        }
 
     -- A budget from 569 on is enough.
     sent-repaired : (budget : ℕ) → 569 ≤ budget → budget ≤ 65_536 → RightSymbols frame

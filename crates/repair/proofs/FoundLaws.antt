@@ -1,6 +1,6 @@
 -- What is searched are bits, and the answer that a search gives is the one defined, whatever the search went through.
 use mathlib.Core.Path.{_≡_, sym, _∙_}
-use Prim.Native.Nat.{ℕ, _^_, _≤_, _<_}
+use Prim.Native.Nat.{ℕ, _-_, _^_, _≤_, _<_}
 use native.Mathlib.Omega.{arith}
 use mathlib.Core.List.{List}
 use borrow.Author.Tests.{lt-ltb, le-ltb, le-leb, lt-leb}
@@ -11,7 +11,8 @@ use Rattle.interleaver.proofs.PlaceLaws.{placeOf-below}
 use Rattle.frame.specs.Symbols.{RightSymbols, DataBits, receivedBits, wrongSyncIn}
 use Rattle.frame.proofs.SymbolLaws.{length-receivedBits, getD-receivedBits}
 use Rattle.distance.specs.Prefixes.{wordDisagreements, liveCount}
-use Rattle.distance.specs.Nearest.{AtMostAll, OnlyNearest}
+use Rattle.distance.specs.Nearest.{AtMostAll, OnlyNearest, IsMargin}
+use Rattle.distance.proofs.NearestLaws.{margin-to}
 use Rattle.repair.specs.Answer.{searched}
 use Rattle.repair.specs.Demand.{IsNearest, Shared}
 use Rattle.repair.specs.Search.{BestBelow, SearchFound, nearestIn, answerOf}
@@ -67,6 +68,11 @@ module _ (received : List ℕ) (limit : ℕ) (best : Best) (b : BestBelow receiv
       let found = b .fewest-found near in
       (found .0, λ other h different. omega (arith, b .next-least other h different, found .1))
 
+  best-margin : best .fewest ≤ limit → IsMargin received limit (best .word) (best .next - best .fewest)
+  best-margin near =
+      rw (← b .fewest-found near .1)
+      (margin-to received limit (best .word) (best .next) (omega (arith, b .in-order, b .fewest-found near .1)) (b .next-most) (b .next-least) (b .next-found))
+
   best-shared : best .fewest ≤ limit → best .next ≤ best .fewest → Shared received limit
   best-shared near shared =
       let one = b .fewest-found near in
@@ -99,6 +105,7 @@ module _ (frame : List ℕ) (limit budget : ℕ) (found : Found) (wrong : ℕ) (
         within-limit = near;
         live-count = s .counted within;
         wrong-sync = e;
+        its-margin = best-margin (receivedBits frame) limit (found .best) b near;
       }
 
   pub found-answered : answerOf found wrong limit budget ≡ searched frame limit budget

@@ -10,7 +10,7 @@ use Rattle.refusal.specs.Refusals.{refusal, wrongLength, symbolTooLarge, badBou
 use Rattle.frame.specs.Symbols.{receivedBits, wrongSyncIn}
 use Rattle.frame.specs.Answer.{firstLarge}
 use Rattle.distance.specs.Prefixes.{liveCount}
-use Rattle.distance.specs.Nearest.{fewest, sharing, nearestWord}
+use Rattle.distance.specs.Nearest.{fewest, sharing, nearestWord, margin}
 use Rattle.repair.specs.declared.Nearest.{Nearest}
 use Rattle.repair.specs.declared.RepairAnswer.{RepairAnswer}
 
@@ -19,17 +19,21 @@ unfoldable pub firstBadBound : ℕ → ℕ → ℕ
 firstBadBound limit budget = firstFalse (leb limit 12 ∷ between 1 65_536 budget ∷ [])
 
 -- "The answer holds the word, its disagreements, the live count, and the number of the 162 symbols whose sync bit (symbol modulo 2) is
--- wrong."
-abbrev pub nearestFrom : ℕ → ℕ → ℕ → ℕ → Nearest
-nearestFrom word disagreements live wrong = record { word = word; disagreements = disagreements; live = live; «sync_wrong» = wrong }
+-- wrong." And "Every repair answer carries" the margin (02, L7).
+abbrev pub nearestFrom : ℕ → ℕ → ℕ → ℕ → ℕ → Nearest
+nearestFrom word disagreements live wrong margin =
+    record { word = word; disagreements = disagreements; live = live; «sync_wrong» = wrong; margin = margin }
 
--- A word with its disagreements, and what else the answer holds.
-unfoldable pub nearestWith : List ℕ → ℕ → ℕ → ℕ → Nearest
-nearestWith frame limit word disagreements = nearestFrom word disagreements (liveCount (receivedBits frame) limit) (wrongSyncIn frame)
+-- A word with its disagreements and its margin, and what else the answer holds.
+unfoldable pub nearestWith : List ℕ → ℕ → ℕ → ℕ → ℕ → Nearest
+nearestWith frame limit word disagreements margin =
+    nearestFrom word disagreements (liveCount (receivedBits frame) limit) (wrongSyncIn frame) margin
 
 -- "The word is the one with the fewest disagreements of all 2^50."
 unfoldable pub nearestOf : List ℕ → ℕ → Nearest
-nearestOf frame limit = nearestWith frame limit (nearestWord (receivedBits frame)) (fewest (receivedBits frame))
+nearestOf frame limit =
+    let received = receivedBits frame in
+    nearestWith frame limit (nearestWord received) (fewest received) (margin received limit)
 
 -- The one word with the fewest disagreements where these are at most the limit, or why there is none. If the fewest lie above the limit,
 -- 17 is given, shared or not.
@@ -41,7 +45,7 @@ nearestWithin frame limit =
     (RepairAnswer.Word (nearestOf frame limit)))
 
 -- Of 162 symbols of 0 to 3, and a limit and a budget within their bounds: "All four equal their definitions here, from the symbols and
--- the limit alone, whatever the search went through."
+-- the limit alone, whatever the search went through", and the margin "as the fifth" (02, L7).
 unfoldable pub searched : List ℕ → ℕ → ℕ → RepairAnswer
 searched frame limit budget =
     cond (ltb budget (liveCount (receivedBits frame) limit)) (RepairAnswer.Refused (refusal overBudget 0)) (nearestWithin frame limit)
@@ -63,7 +67,7 @@ pub record RepairNumbers : Type 0 where
   pub nearest : Nearest
 
 unfoldable pub noNearest : Nearest
-noNearest = nearestFrom 0 0 0 0
+noNearest = nearestFrom 0 0 0 0 0
 
 unfoldable pub repairNumbers : RepairAnswer → RepairNumbers
 repairNumbers (RepairAnswer.Word n) = record { number = 0; place = 0; nearest = n }

@@ -1,8 +1,8 @@
 -- What is asked of an answer: what is refused before a search; and demand 3: when the answer is "out of budget", when it is a word and
--- which, and that two flipped data bits at most are repaired.
+-- which, with which margin, and that two flipped data bits at most are repaired.
 use mathlib.Core.Path.{_≡_}
 use mathlib.Core.Logic.{_↔_, _⊎_}
-use Prim.Native.Nat.{ℕ, _^_, _≤_, _<_}
+use Prim.Native.Nat.{ℕ, _+_, _-_, _^_, _≤_, _<_}
 use mathlib.Core.Bool.{Bool, not}
 use mathlib.Core.List.{List}
 use lib.Dec.{eqb}
@@ -11,7 +11,7 @@ use Rattle.basics.specs.Below.{countBelow}
 use Rattle.refusal.specs.Refusals.{refusal, wrongLength, symbolTooLarge, badBound, overBudget, noneWithinLimit, sharedFewest}
 use Rattle.frame.specs.Symbols.{frameOf, RightSymbols, dataAt, receivedBits, wrongSyncIn}
 use Rattle.distance.specs.Prefixes.{wordDisagreements, liveCount}
-use Rattle.distance.specs.Nearest.{AtMostAll, OnlyNearest}
+use Rattle.distance.specs.Nearest.{AtMostAll, OnlyNearest, IsMargin}
 use Rattle.repair.specs.Answer.{nearestWith}
 use Rattle.repair.specs.declared.Nearest.{Nearest}
 use Rattle.repair.specs.declared.RepairAnswer.{RepairAnswer}
@@ -51,6 +51,8 @@ pub record IsNearest (frame : List ℕ) (limit : ℕ) (nearest : Nearest) : Type
   pub within-limit : nearest .disagreements ≤ limit
   pub live-count : nearest .live ≡ liveCount (receivedBits frame) limit
   pub wrong-sync : nearest .«sync_wrong» ≡ wrongSyncIn frame
+  -- "how many more disagreements the next nearest word has. If no other word is within the limit, that next is taken as limit + 1." (02, L7)
+  pub its-margin : IsMargin (receivedBits frame) limit (nearest .word) (nearest .margin)
 
 -- "no word within the limit"
 abbrev pub NoneWithin : List ℕ → ℕ → Type 0
@@ -93,9 +95,10 @@ flippedAt word frame place = not (eqb (dataAt frame place) (dataAt (frameOf word
 unfoldable pub flips : ℕ → List ℕ → ℕ
 flips word frame = countBelow 162 (flippedAt word frame)
 
--- The sent word, "with the number of flipped bits as its disagreements", and what else the answer holds.
+-- The sent word, "with the number of flipped bits as its disagreements", and what else the answer holds. No other word is within the limit,
+-- so the next "is taken as limit + 1".
 unfoldable pub givenBack : ℕ → List ℕ → ℕ → Nearest
-givenBack word frame limit = nearestWith frame limit word (flips word frame)
+givenBack word frame limit = nearestWith frame limit word (flips word frame) (limit + 1 - flips word frame)
 
 -- "Whichever 50-bit word was sent, whichever of its frame's 162 data bits were flipped, two at most, and whatever became of the sync
 -- bits, limit 2 with a budget of 16,000 gives that word back, with the number of flipped bits as its disagreements."

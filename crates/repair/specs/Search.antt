@@ -1,7 +1,7 @@
 -- What the search keeps and finds. No promise of `repair` has to be believed through these: they stand between its functions. One of them is
 -- a sentence of 01 by itself: `stops` of `SearchFound`.
 use mathlib.Core.Path.{_≡_}
-use Prim.Native.Nat.{ℕ, _+_, _^_, _≤_, _<_}
+use Prim.Native.Nat.{ℕ, _+_, _-_, _^_, _≤_, _<_}
 use mathlib.Core.Bool.{cond}
 use mathlib.Core.List.{List}
 use lib.Dec.{leb, ltb}
@@ -48,7 +48,9 @@ pub record SearchFound (received : List ℕ) (limit budget : ℕ) (found : Found
 
 -- The answer that it gives, with the number of wrong sync bits.
 unfoldable pub nearestIn : Found → ℕ → Nearest
-nearestIn found wrong = nearestFrom (found .best .word) (found .best .fewest) (found .live) wrong
+nearestIn found wrong =
+    let best = found .best in
+    nearestFrom (best .word) (best .fewest) (found .live) wrong (best .next - best .fewest)
 
 unfoldable pub answerOf : Found → ℕ → ℕ → ℕ → RepairAnswer
 answerOf found wrong limit budget =

@@ -18,14 +18,16 @@ use refusal::SYMBOL_TOO_LARGE;
 use refusal::WRONG_LENGTH;
 use search::Found;
 
-// The nearest word, its disagreements, the live count, and how many of the 162 sync bits are wrong. C
-// gets it whole, in the struct of a repair.
+// The nearest word, its disagreements, the live count, how many of the 162 sync bits are wrong, and the
+// margin: how many more disagreements the next nearest word has. C gets it whole, in the struct of a
+// repair.
 #[repr(C)]
 pub struct Nearest {
     pub word: u64,
     pub disagreements: u32,
     pub live: u32,
     pub sync_wrong: u32,
+    pub margin: u32,
 }
 
 // The answer of a repair.
@@ -75,6 +77,7 @@ fn answer(found: Found, sync_wrong: u32, limit: u32, budget: u32) -> RepairAnswe
         disagreements: best.fewest,
         live: found.live,
         sync_wrong,
+        margin: best.next - best.fewest,
     })
 }
 

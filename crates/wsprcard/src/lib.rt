@@ -29,6 +29,7 @@ const NO_NEAREST: Nearest = Nearest {
     disagreements: 0,
     live: 0,
     sync_wrong: 0,
+    margin: 0,
 };
 
 const NO_READING: Reading = Reading {
