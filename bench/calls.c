@@ -91,10 +91,7 @@ const layer read_message = {
     run_read_message, {ANY(wspr_read_message), ANY(hand_read_message)}, sizeof(wspr_message), spoil_frame,
 };
 const layer repair = {
-    run_repair,
-    {ANY(wspr_repair), ANY(plain_repair), ANY(tuned_repair)},
-    offsetof(wspr_repaired, sync_wrong) + sizeof(uint32_t),
-    spoil_frame,
+    run_repair, {ANY(wspr_repair), ANY(plain_repair), ANY(tuned_repair)}, sizeof(wspr_repaired), spoil_frame,
 };
 const layer write_report = {
     run_write_report, {ANY(u4b_write), ANY(hand_u4b_write)}, sizeof(wspr_message), spoil_report,

@@ -28,7 +28,7 @@ typedef void run(any_call *call, const inputs *in, size_t from, size_t to, answe
 typedef struct {
     run *run;
     any_call *calls[CALLS];
-    size_t result_size; /* without what pads the struct at its end */
+    size_t result_size; /* of a struct without padding: all its bytes are compared */
     draw *spoil;
 } layer;
 

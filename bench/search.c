@@ -21,7 +21,8 @@ typedef struct {
 /* What a search is to find, and what it has found so far. */
 typedef struct {
     const uint8_t *received; /* two bits a step, the first coded bit above the second */
-    uint32_t limit, budget, words;
+    uint32_t limit, budget;
+    uint32_t nearest, next; /* the disagreements of the two nearest words so far; limit + 1 where there is none */
     wspr_repaired *found;
 } task;
 
@@ -77,14 +78,22 @@ static int32_t clock_tail(const uint8_t *received, const prefix *word, uint32_t 
     return left;
 }
 
+/* The answer's numbers, by the disagreements of the two nearest words. Returns the refusal's number. */
+static uint32_t conclude(task *t)
+{
+    t->found->disagreements = t->nearest;
+    t->found->margin = t->next - t->nearest;
+    return t->nearest > t->limit ? 17 : t->next == t->nearest ? 18 : 0;
+}
+
 /* Depth first, the nearer child first. The other one is put on the stack in any case and stays there only if it is
  * live: a branch would be mispredicted too often. Returns the refusal's number. */
 static uint32_t search_tuned(task *t)
 {
     const uint8_t *received = t->received;
     prefix stack[WORD_BITS], now = {0, 0, 0, (int32_t)t->limit};
-    uint32_t budget = t->budget, waiting = 0, live = 0, words = 0;
-    int32_t most = 0;
+    uint32_t budget = t->budget, waiting = 0, live = 0;
+    int32_t most = -1, second = -1; /* what the two nearest words leave of the limit */
 
     for (;;) {
         while (now.length < WORD_BITS) {
@@ -101,31 +110,33 @@ static uint32_t search_tuned(task *t)
 
             if (live > budget)
                 return 16;
-            if (left > most || (left == most && words == 0)) {
+            if (left > most) {
+                second = most;
                 most = left;
-                words = 0;
                 t->found->word = now.bits;
+            } else if (left > second) {
+                second = left;
             }
-            words += left == most;
         }
         if (waiting == 0)
             break;
         now = stack[--waiting];
     }
     t->found->live = live;
-    t->found->disagreements = t->limit - (uint32_t)most;
-    return words == 0 ? 17 : words == 1 ? 0 : 18;
+    t->nearest = t->limit - (uint32_t)most;
+    t->next = t->limit - (uint32_t)second;
+    return conclude(t);
 }
 
-/* A word within the limit: the nearest so far, or as near. */
+/* A word within the limit: the nearest so far, or the next. */
 static void take_word(task *t, uint64_t word, uint32_t distance)
 {
-    if (t->words == 0 || distance < t->found->disagreements) {
+    if (distance < t->nearest) {
+        t->next = t->nearest;
+        t->nearest = distance;
         t->found->word = word;
-        t->found->disagreements = distance;
-        t->words = 1;
-    } else if (distance == t->found->disagreements) {
-        t->words++;
+    } else if (distance < t->next) {
+        t->next = distance;
     }
 }
 
@@ -158,7 +169,7 @@ static uint32_t search_plain(task *t)
 {
     uint32_t over = visit(t, 0, 0, 0, 0);
 
-    return over ? over : t->words == 0 ? 17 : t->words == 1 ? 0 : 18;
+    return over ? over : conclude(t);
 }
 
 static wspr_repaired refused(uint32_t refusal, uint32_t place)
@@ -170,7 +181,7 @@ static wspr_repaired repair_by(search *by, const uint8_t *frame, size_t frame_le
 {
     uint8_t received[CLOCKED];
     wspr_repaired found = {0};
-    task t = {received, limit, budget, 0, &found};
+    task t = {received, limit, budget, limit + 1, limit + 1, &found};
     uint32_t place, refusal;
 
     if (frame_len != SYMBOLS)

@@ -43,7 +43,9 @@ static const struct {
     "A frame is 162 digits 0 to 3, the symbols in the order in which they are sent.\n"
 #define REPAIR_HELP \
     "The answer is the word, its message, the message's telemetry, the disagreements,\n" \
-    "the live count and the number of wrong sync bits.\n"
+    "the live count, the number of wrong sync bits and the margin: how many more\n" \
+    "disagreements the next nearest word has, which counts as limit + 1 where no\n" \
+    "other word is within the limit.\n"
 #define COUNTS_HELP \
     "\n" \
     "The live count of a clean frame, in which no data bit is flipped, by limit:\n" \

@@ -446,6 +446,15 @@ static void hold_repaired(const uint8_t *frame, uint32_t limit, uint32_t budget,
     hold(differing(own, frame, 1, &first) == r.sync_wrong, "the wrong sync bits are all counted");
     hold(again.refusal == 0 && again.word == r.word, "a limit of just the disagreements gives the same word");
     hold(again.live <= r.live, "a lower limit has no more live prefixes");
+    hold(again.margin == 1, "at a limit of just the disagreements no other word is within it, and the margin is 1");
+}
+
+/* By its definition the margin is at least 1 and leads to limit + 1 at most. Here it leads just there: words are 28
+ * data bits apart or more, which tests/tests/repair.rs counts, so none but the answer is within a limit of 12. */
+static void hold_margin(uint32_t limit, wspr_repaired r)
+{
+    hold(r.margin >= 1, "the next nearest word has more disagreements");
+    hold(r.disagreements + r.margin == limit + 1, "the margin is what the disagreements leave to limit + 1");
 }
 
 /* The live count is the least budget that is enough. */
@@ -455,14 +464,17 @@ static void hold_live(const uint8_t *frame, uint32_t limit, wspr_repaired r)
     wspr_repaired less = wspr_repair(frame, FRAME_LEN, limit, r.live - 1);
 
     hold(enough.refusal == 0 && enough.word == r.word, "a budget of the live count is enough");
+    hold(enough.margin == r.margin, "the budget doesn't change the margin");
     hold(less.refusal == 16, "a budget below the live count is refused 16");
 }
 
 /* What is promised of two flipped data bits at most; and that a known word is never passed over for a farther one. */
 static void hold_sent_word(const struct frame_input *f, uint32_t limit, uint32_t budget, wspr_repaired r)
 {
-    if (f->flips <= 2 && limit == 2 && budget >= 16000 && budget <= 65536)
+    if (f->flips <= 2 && limit == 2 && budget >= 16000 && budget <= 65536) {
         hold(r.refusal == 0 && r.word == f->word && r.disagreements == f->flips, "two flipped data bits are repaired");
+        hold(r.margin == 3 - f->flips, "at limit 2 the margin is 3 less the number of flipped data bits");
+    }
     if (f->flips <= limit)
         hold(r.refusal != 17, "a word within the limit isn't refused 17");
     if (r.refusal == 0)
@@ -480,8 +492,10 @@ static void hold_repair_refusal(const struct lent *frame, uint32_t limit, uint32
     if (r.refusal == 0)
         hold(first_large(frame->bytes) == FRAME_LEN, "a symbol above 3 isn't repaired");
     hold_frame_refusal(frame, r.refusal, r.place);
-    if (r.refusal)
-        hold(r.word == 0 && r.disagreements == 0 && r.live == 0 && r.sync_wrong == 0, "a refusal's numbers are 0");
+    if (r.refusal) {
+        hold(r.word == 0 && r.disagreements == 0 && r.live == 0, "a refusal's numbers are 0");
+        hold(r.sync_wrong == 0 && r.margin == 0, "a refusal's numbers are 0");
+    }
 }
 
 static void try_repair(struct generator *g)
@@ -501,6 +515,7 @@ static void try_repair(struct generator *g)
         hold_sent_word(&f, limit, budget, r);
     if (r.refusal == 0) {
         hold_repaired(frame.bytes, limit, budget, r);
+        hold_margin(limit, r);
         hold_live(frame.bytes, limit, r);
     }
     give_back(&frame);

@@ -1,6 +1,6 @@
 /* What the calls write that return a struct of more than 16 bytes. On x86-64 the caller passes where it is to be
  * written; here the calls are declared that way, so that every byte is seen: a struct of the library that is larger
- * than the header's, or has a field more in its padding, writes past the last byte that is shown. */
+ * than the header's writes past the last byte that is shown. Neither struct has padding. */
 #include <stddef.h>
 #include <stdint.h>
 #include <stdio.h>

@@ -7,8 +7,8 @@
 
 #define SYMBOLS 162
 
-/* Where the library writes the last number: tests/c/layout.c sees that it writes no further. */
-_Static_assert(offsetof(wspr_repaired, sync_wrong) == 24 && sizeof(wspr_repaired) == 32, "layout");
+/* Where the library writes the last number, the margin: tests/c/layout.c sees that it writes no further. */
+_Static_assert(offsetof(wspr_repaired, margin) == 28 && sizeof(wspr_repaired) == 32, "layout");
 
 /* What a repair says of the frame, and what message its word is. */
 static void repair_and_print(const char *what, const uint8_t *frame, size_t len, uint32_t limit, uint32_t budget)
@@ -22,8 +22,9 @@ static void repair_and_print(const char *what, const uint8_t *frame, size_t len,
         printf("refused %" PRIu32 " place %" PRIu32 "\n", r.refusal, r.place);
         return;
     }
-    printf("word %013" PRIx64 ", disagreements %" PRIu32 ", live %" PRIu32 ", sync wrong %" PRIu32 ", ", r.word,
+    printf("word %013" PRIx64 ", disagreements %" PRIu32 ", live %" PRIu32 ", sync wrong %" PRIu32, r.word,
            r.disagreements, r.live, r.sync_wrong);
+    printf(", margin %" PRIu32 ", ", r.margin);
     m = wspr_unpack(r.word, callsign, sizeof callsign, locator, sizeof locator);
     if (m.refusal)
         printf("message refused %" PRIu32 " place %" PRIu32 "\n", m.refusal, m.place);

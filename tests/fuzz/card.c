@@ -154,6 +154,7 @@ static void try_repair(struct input *in)
     equal("disagreements", card.disagreements, reference.disagreements);
     equal("live count", card.live, reference.live);
     equal("count of wrong sync bits", card.sync_wrong, reference.sync_wrong);
+    equal("margin", card.margin, reference.margin);
 }
 
 static void try_u4b_write(struct input *in)

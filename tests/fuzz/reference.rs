@@ -40,6 +40,7 @@ pub struct RepairedAnswer {
     disagreements: u32,
     live: u32,
     sync_wrong: u32,
+    margin: u32,
 }
 
 #[repr(C)]
@@ -207,8 +208,8 @@ pub unsafe extern "C" fn reference_repair(
     budget: u32,
 ) -> RepairedAnswer {
     match repair::repair(lent(frame, frame_len), limit, budget) {
-        Ok(repair::Repaired { word, disagreements, live, sync_wrong }) => {
-            RepairedAnswer { refusal: 0, place: 0, word, disagreements, live, sync_wrong }
+        Ok(repair::Repaired { word, disagreements, live, sync_wrong, margin }) => {
+            RepairedAnswer { refusal: 0, place: 0, word, disagreements, live, sync_wrong, margin }
         }
         Err(Refusal { number, place }) => {
             RepairedAnswer { refusal: number, place, ..Default::default() }

@@ -21,8 +21,8 @@ pub fn message_answer(answer: Result<Message, Refusal>) -> card::Message {
 
 pub fn repaired_answer(answer: Result<Repaired, Refusal>) -> card::Repaired {
     match answer {
-        Ok(Repaired { word, disagreements, live, sync_wrong }) => {
-            card::Repaired { refusal: 0, place: 0, word, disagreements, live, sync_wrong }
+        Ok(Repaired { word, disagreements, live, sync_wrong, margin }) => {
+            card::Repaired { refusal: 0, place: 0, word, disagreements, live, sync_wrong, margin }
         }
         Err(refusal) => refused_repair(refusal.number, refusal.place),
     }
@@ -64,7 +64,7 @@ pub fn refused_message(refusal: u32, place: u32) -> card::Message {
 }
 
 pub fn refused_repair(refusal: u32, place: u32) -> card::Repaired {
-    card::Repaired { refusal, place, word: 0, disagreements: 0, live: 0, sync_wrong: 0 }
+    card::Repaired { refusal, place, word: 0, disagreements: 0, live: 0, sync_wrong: 0, margin: 0 }
 }
 
 pub fn refused_reading(refusal: u32, place: u32) -> card::Reading {

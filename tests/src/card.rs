@@ -34,6 +34,7 @@ pub struct Repaired {
     pub disagreements: u32,
     pub live: u32,
     pub sync_wrong: u32,
+    pub margin: u32,
 }
 
 #[repr(C)]

@@ -11,3 +11,10 @@ pub const LEAST_DISTANCE: u32 = 28;
 
 /// The word whose frame has so few ones, as have those of its 31 shifted copies.
 pub const LIGHTEST: u64 = 0x546c3;
+
+/// The margin where so many flips, within the limit, leave a word the nearest. Every other word is
+/// too far away to be within the limit, so the next is taken as limit + 1.
+pub fn margin(limit: u32, flips: u32) -> u32 {
+    assert!(flips <= limit && LEAST_DISTANCE - flips > limit, "limit {limit}, {flips} flips");
+    limit + 1 - flips
+}

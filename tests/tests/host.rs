@@ -13,7 +13,7 @@ use std::time::Duration;
 
 use wsprcard_tests::child::{assert_output, end_of, in_repository, Ended, Program};
 use wsprcard_tests::counts::Counts;
-use wsprcard_tests::facts::CLEAN;
+use wsprcard_tests::facts::{margin, CLEAN};
 use wsprcard_tests::inputs::{
     bad_word, flipped, noise, random_legal_word, random_message, random_places, random_telemetry,
     recase, resized, spoil_sync, spoil_telemetry,
@@ -170,6 +170,7 @@ fn value_of(answer: &Result<Answer, Refused>) -> Value {
             members.push(("disagreements", number(repaired.disagreements)));
             members.push(("live", number(repaired.live)));
             members.push(("sync_wrong", number(repaired.sync_wrong)));
+            members.push(("margin", number(repaired.margin)));
             object(members)
         }
     }
@@ -549,29 +550,34 @@ fn words_that_are_no_messages_are_told() {
         let line = frame_line(&frame_of(word));
         assert_answer(&["read"], &line, &format!("refused {reason}"));
         let answer = format!(
-            "word {word:013x}; message refused {reason}; disagreements 0; live 81; sync wrong 0"
+            "word {word:013x}; message refused {reason}; disagreements 0; live 81; sync wrong 0; \
+             margin 1"
         );
         assert_answer(&["repair", "--limit", "0"], &line, &answer);
     }
 }
 
-/// The live count of a clean frame at limit 0 is that of its own 81 prefixes.
+/// The live count of a clean frame at limit 0 is that of its own 81 prefixes, and its margin is 1:
+/// no other word is within the limit.
 #[test]
-fn a_repair_tells_its_six_parts() {
+fn a_repair_tells_its_seven_parts() {
     let mut frame = frame_of(word_of_line(TELEMETRY));
     let at_zero = ["repair", "--limit", "0"];
     let word = word_of_line(TELEMETRY);
     let start = format!("word {word:013x}; message QQ2XFT GP99 60; telemetry ");
-    let whole = format!("{start}Q2 SK 12340 -15 4100 30 1; disagreements 0; live 81; sync wrong 0");
+    let end = "disagreements 0; live 81; sync wrong 0; margin 1";
+    let whole = format!("{start}Q2 SK 12340 -15 4100 30 1; {end}");
     assert_answer(&at_zero, &frame_line(&frame), &whole);
     for place in [1, 100, 161] {
         frame[place] ^= 1;
     }
     assert_answer(&at_zero, &frame_line(&frame), &whole.replace("wrong 0", "wrong 3"));
     let message = frame_line(&frame_of(word_of_line(b" K1ABC FN20 37")));
-    let whole = "word 3dc308e2ce765; message  K1ABC FN20 37; telemetry refused 10 0: the first \
-                 character isn't 0, 1 or Q; disagreements 0; live 81; sync wrong 0";
-    assert_answer(&at_zero, &message, whole);
+    let start = "word 3dc308e2ce765; message  K1ABC FN20 37; telemetry refused 10 0: the first \
+                 character isn't 0, 1 or Q; ";
+    assert_answer(&at_zero, &message, &format!("{start}{end}"));
+    let object = r#"{"word":"3dc308e2ce765","message":{"callsign":" K1ABC","locator":"FN20","power":37},"telemetry":{"refusal":10,"place":0,"reason":"the first character isn't 0, 1 or Q"},"disagreements":0,"live":81,"sync_wrong":0,"margin":1}"#;
+    assert_answer(&["repair", "--limit", "0", "--json"], &message, object);
 }
 
 // Where lines end
@@ -864,7 +870,7 @@ fn the_vectors_of_wsjtx_are_answered() {
     assert_eq!(repaired.lines().count(), 39);
     for (answer, start) in repaired.lines().zip(starts) {
         assert!(answer.starts_with(&start), "{answer}");
-        assert!(answer.ends_with("; sync wrong 0"), "{answer}");
+        assert!(answer.ends_with("; sync wrong 0; margin 3"), "{answer}");
     }
     for (arguments, input) in [("encode", &messages), ("telemetry", &messages), ("read", &frames)] {
         check(&[arguments], input);
@@ -1426,6 +1432,7 @@ fn two_flips_are_repaired() {
         let part = format!("; message {}; telemetry ", String::from_utf8_lossy(message));
         assert!(answer.contains(&part), "{answer}");
         assert!(answer.contains("; disagreements 2; live "), "{answer}");
+        assert!(answer.ends_with("; sync wrong 0; margin 1"), "{answer}");
     }
 }
 
@@ -1506,11 +1513,12 @@ fn a_budget_is_gone_through_to_its_end() {
         let arguments = [&["repair"], options].concat();
         let ended = wsprcard(&arguments).run(&frame_line(&frame));
         let answer = String::from_utf8_lossy(&ended.stdout);
-        let disagreements = flips.len();
+        let disagreements = flips.len() as u32;
+        let margin = margin(limit, disagreements);
         let expected = match live {
-            16_000 | 65_536 => {
-                format!("; disagreements {disagreements}; live {live}; sync wrong 0\n")
-            }
+            16_000 | 65_536 => format!(
+                "; disagreements {disagreements}; live {live}; sync wrong 0; margin {margin}\n"
+            ),
             _ => format!("refused {OVER_BUDGET}\n"),
         };
         assert!(answer.ends_with(&expected), "{arguments:?}: {answer}");
@@ -1523,12 +1531,15 @@ fn a_budget_is_gone_through_to_its_end() {
 #[test]
 fn every_limit_alone_repairs_what_the_largest_budget_can() {
     let line = frame_line(&frame_of(word_of_line(TELEMETRY)));
-    for (limit, live) in CLEAN.into_iter().enumerate() {
+    for (limit, live) in (0..).zip(CLEAN) {
+        let margin = margin(limit, 0);
         let limit = limit.to_string();
         let ended = wsprcard(&["repair", "--limit", &limit]).run(&line);
         let answer = String::from_utf8_lossy(&ended.stdout);
         let expected = match live {
-            0..=65_536 => format!("; disagreements 0; live {live}; sync wrong 0\n"),
+            0..=65_536 => {
+                format!("; disagreements 0; live {live}; sync wrong 0; margin {margin}\n")
+            }
             _ => format!("refused {OVER_BUDGET}\n"),
         };
         assert!(answer.ends_with(&expected), "limit {limit}: {answer}");
@@ -1869,7 +1880,7 @@ fn the_sample_shows_what_it_is_for() {
         assert!(lines[1].starts_with(&format!("  read:  {read}")), "{}", lines[1]);
         assert!(lines[2].starts_with("  repair: ") && lines[2].contains(repair), "{}", lines[2]);
     }
-    assert!(lines[8].ends_with("; sync wrong 7"));
+    assert!(lines[8].ends_with("; sync wrong 7; margin 3"));
 }
 
 #[test]

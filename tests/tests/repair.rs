@@ -1,8 +1,10 @@
 // Repair in the independent implementation: its search is held to the definitions on codes
 // small enough to count everything, and the papers' facts about live counts, distances and
-// flipped bits are counted anew on frames.
+// flipped bits are counted anew on frames. No two words of the code itself are within a limit of
+// 12: words that share the fewest disagreements, and margins to a word within the limit, are tested
+// on small codes, and on the code itself with limits that the card doesn't take.
 use wsprcard_tests::counts::Counts;
-use wsprcard_tests::facts::{CLEAN, LEAST_DISTANCE, LIGHTEST};
+use wsprcard_tests::facts::{margin, CLEAN, LEAST_DISTANCE, LIGHTEST};
 use wsprcard_tests::inputs::{
     asked_with_faults, bad_symbol, differing_places, edge_words, flipped, noise, random_frame,
     random_places, random_word, resized, spoil_sync, wrong_lengths,
@@ -29,6 +31,19 @@ const SMALL: [Code; 4] = [
     Code { word_bits: 10, register_bits: 4, masks: [0b1010, 0b1100], tail: 2 },
     Code { word_bits: 10, register_bits: 3, masks: [0b100, 0b110], tail: 0 },
 ];
+
+/// The two cases of the margin: another word is within the limit, or none is.
+const NEXT_WITHIN: &str = "next within the limit";
+const NONE_WITHIN: &str = "no other within the limit";
+
+/// The case where the next nearest word has so many disagreements.
+fn case_of(next: u32, limit: u32) -> &'static str {
+    if next <= limit {
+        NEXT_WITHIN
+    } else {
+        NONE_WITHIN
+    }
+}
 
 /// Counts the answers, and on small codes compares search and definition.
 struct Check {
@@ -58,6 +73,9 @@ impl Check {
         let defined = code.nearest_by_definition(received, limit, budget);
         assert_eq!(answer, defined, "{code:?}, {received:?}, limit {limit}, budget {budget}");
         self.counts.count("nearest", number_of(&answer));
+        if let Ok(Nearest { disagreements, margin, .. }) = answer {
+            self.counts.count(case_of(disagreements + margin, limit), 0);
+        }
         answer
     }
 
@@ -75,6 +93,11 @@ fn refused<Answer>(number: u32, place: u32) -> Result<Answer, Refusal> {
     Err(Refusal { number, place })
 }
 
+/// The answer where so many flips, within the limit, make this the nearest word.
+fn repaired(word: u64, flips: u32, live: u32, limit: u32) -> Repaired {
+    Repaired { word, disagreements: flips, live, sync_wrong: 0, margin: margin(limit, flips) }
+}
+
 fn random_bits(rng: &mut Rng, count: usize) -> Vec<u8> {
     (0..count).map(|_| rng.below(2) as u8).collect()
 }
@@ -89,6 +112,25 @@ fn random_code(rng: &mut Rng) -> Code {
         masks: [rng.below(masks) as u32, rng.below(masks) as u32],
         tail: rng.below(register_bits) as usize,
     }
+}
+
+/// One of the small codes, or in every third turn a random one.
+fn small_code(rng: &mut Rng, turn: usize) -> Code {
+    if turn % 3 == 0 {
+        random_code(rng)
+    } else {
+        SMALL[turn / 3 % 4]
+    }
+}
+
+/// All patterns that may be received of the tiny code.
+fn tiny_patterns() -> impl Iterator<Item = Vec<u8>> {
+    (0..1 << 10).map(|pattern| (0..10).map(|bit| (pattern >> bit & 1) as u8).collect())
+}
+
+/// The disagreements of every word of a code.
+fn all_disagreements(code: &Code, received: &[u8]) -> Vec<u32> {
+    (0..1 << code.word_bits).map(|word| code.disagreements(&code.clocked(word), received)).collect()
 }
 
 /// Any bits, or a word's coded bits with a few flips, or what lies halfway between two words.
@@ -396,8 +438,8 @@ fn two_flips_or_fewer_are_repaired_at_limit_2() {
             let sync_wrong = check.rng.below(FRAME_LEN as u64 + 1) as u32;
             spoil_sync(&mut check.rng, &mut frame, sync_wrong as usize);
             let live = live_count(&frame, 2) as u32;
-            let disagreements = places.len() as u32;
-            let expected = Repaired { word, disagreements, live, sync_wrong };
+            let flips = places.len() as u32;
+            let expected = Repaired { sync_wrong, ..repaired(word, flips, live, 2) };
             assert_eq!(check.repair(&frame, 2, 16_000), Ok(expected), "{word:#x} {places:?}");
             assert!(live <= CLEAN[4] as u32, "{live}: {places:?}");
             most = most.max(live);
@@ -423,6 +465,7 @@ fn two_flips_of_any_word_are_repaired_at_limit_2() {
         let found = check.repair(&frame, 2, 16_000).expect("two flips are repaired");
         assert_eq!((found.word, found.disagreements), (word, flips as u32));
         assert_eq!(found.sync_wrong, damaged as u32, "{word:#x}");
+        assert_eq!(found.margin, margin(2, flips as u32), "{word:#x}");
     }
     check.finish(&[("repair", 0, 20_000)]);
 }
@@ -466,12 +509,10 @@ fn flips_within_the_limit_are_repaired() {
                 let frame = flipped(frame_of(word), &places);
                 let live = live_count(&frame, limit);
                 let budget = check.rng.pick(&[LARGEST_BUDGET, 16_000, 2_000, 200]);
-                let repaired =
-                    Repaired { word, disagreements: flips, live: live as u32, sync_wrong: 0 };
                 let expected = match live {
                     _ if live > u64::from(budget) => refused(16, 0),
                     _ if flips > limit => refused(17, 0),
-                    _ => Ok(repaired),
+                    _ => Ok(repaired(word, flips, live as u32, limit)),
                 };
                 let found = check.repair(&frame, limit, budget);
                 assert_eq!(found, expected, "{word:#x} {places:?} {limit} {budget}");
@@ -495,13 +536,10 @@ fn the_nearer_of_two_words_is_the_answer() {
         for flips in 0..=LEAST_DISTANCE {
             let live = live_count(&frame, limit);
             let back = LEAST_DISTANCE - flips;
-            let repaired = |word, disagreements| {
-                Ok(Repaired { word, disagreements, live: live as u32, sync_wrong: 0 })
-            };
             let expected = match live {
                 _ if live > u64::from(LARGEST_BUDGET) => refused(16, 0),
-                _ if flips <= limit => repaired(word, flips),
-                _ if back <= limit => repaired(other, back),
+                _ if flips <= limit => Ok(repaired(word, flips, live as u32, limit)),
+                _ if back <= limit => Ok(repaired(other, back, live as u32, limit)),
                 _ => refused(17, 0),
             };
             let found = check.repair(&frame, limit, LARGEST_BUDGET);
@@ -515,6 +553,41 @@ fn the_nearer_of_two_words_is_the_answer() {
     check.finish(&[("repair", 0, 200), ("repair", 16, 100), ("repair", 17, 200)]);
 }
 
+/// The same around halfway, with a limit that both words are within. A third word is as far from
+/// either as they are from each other, or farther, so it is no nearer than the farther of the two.
+#[test]
+fn above_limit_12_the_margin_is_to_the_farther_of_two_words() {
+    let mut rng = Rng::new(32);
+    let mut counts = Counts::new();
+    for turn in 0..9 {
+        let word = random_word(&mut rng);
+        let other = word ^ LIGHTEST << rng.below(32);
+        let places = differing_places(&frame_of(word), &frame_of(other));
+        let flips = 13 + turn % 3;
+        let received = data_bits(&flipped(frame_of(word), &places[..flips as usize]));
+        let mut words = [(flips, word), (LEAST_DISTANCE - flips, other)];
+        words.sort();
+        let [(fewest, nearest), (next, _)] = words;
+        for limit in [13, 15] {
+            let found = WSPR.nearest(&received, limit, u32::MAX);
+            let told = found.map(|found| (found.word, found.disagreements, found.margin));
+            let expected = match fewest {
+                _ if fewest > limit => refused(17, 0),
+                _ if fewest == next => refused(18, 0),
+                _ => Ok((nearest, fewest, next.min(limit + 1) - fewest)),
+            };
+            assert_eq!(told, expected, "{word:#x} {other:#x} {flips} {limit}");
+            counts.count(case_of(next, limit), number_of(&told));
+        }
+    }
+    counts.finish(&[
+        (NONE_WITHIN, 0, 6),
+        (NONE_WITHIN, 17, 3),
+        (NEXT_WITHIN, 0, 6),
+        (NEXT_WITHIN, 18, 3),
+    ]);
+}
+
 // Budgets and refusals
 
 #[test]
@@ -523,7 +596,7 @@ fn the_bench_sheet_holds() {
     for word in [259_047_992 * 4_194_304 + 2_942_821, 0, WORDS - 1] {
         let frame = frame_of(word);
         for (limit, live) in [(0, 81), (1, 81), (2, 131)] {
-            let expected = Repaired { word, disagreements: 0, live, sync_wrong: 0 };
+            let expected = repaired(word, 0, live, limit);
             assert_eq!(check.repair(&frame, limit, live), Ok(expected), "{word:#x}");
             assert_eq!(check.repair(&frame, limit, LARGEST_BUDGET), Ok(expected), "{word:#x}");
             assert_eq!(check.repair(&frame, limit, live - 1), refused(16, 0), "{word:#x}");
@@ -594,7 +667,7 @@ fn sync_bits_are_counted_and_never_refuse() {
         spoil_sync(&mut check.rng, &mut frame, count);
         let sync_wrong = count as u32;
         for (limit, live) in [(0, 81), (1, 81), (2, 131)] {
-            let expected = Repaired { word, disagreements: 0, live, sync_wrong };
+            let expected = Repaired { sync_wrong, ..repaired(word, 0, live, limit) };
             assert_eq!(check.repair(&frame, limit, live), Ok(expected), "{word:#x}, {count}");
         }
         frame[0] ^= 2;
@@ -602,7 +675,7 @@ fn sync_bits_are_counted_and_never_refuse() {
         assert_eq!(check.repair(&frame, 8, 1), refused(16, 0), "{word:#x}, {count}");
     }
     let inverted = sync().map(|bit| 1 - bit);
-    let expected = Repaired { word: 0, disagreements: 0, live: 81, sync_wrong: 162 };
+    let expected = Repaired { sync_wrong: 162, ..repaired(0, 0, 81, 0) };
     assert_eq!(check.repair(&inverted, 0, 81), Ok(expected));
     check.finish(&[("repair", 0, 3 * 163 + 1), ("repair", 16, 163), ("repair", 17, 163)]);
 }
@@ -701,8 +774,7 @@ fn refusals_come_in_their_order() {
 fn every_pattern_of_a_tiny_code_gets_the_defined_answer() {
     let mut check = Check::new(23);
     let prefixes = 2 + 4 + 8 + 8 + 8;
-    for pattern in 0..1 << 10 {
-        let received: Vec<u8> = (0..10).map(|bit| (pattern >> bit & 1) as u8).collect();
+    for received in tiny_patterns() {
         assert_eq!(TINY.live_counts(&received, 10), [2, 4, 8, 8, 8]);
         for limit in 0..=10 {
             for budget in 1..=prefixes {
@@ -712,6 +784,8 @@ fn every_pattern_of_a_tiny_code_gets_the_defined_answer() {
     }
     check.finish(&[
         ("nearest", 0, 10_000),
+        (NONE_WITHIN, 0, 10_000),
+        (NEXT_WITHIN, 0, 10_000),
         ("nearest", 16, 10_000),
         ("nearest", 17, 1_000),
         ("nearest", 18, 1_000),
@@ -727,9 +801,7 @@ fn words_that_share_the_fewest_are_refused_if_within_the_limit() {
     assert_eq!(none, [0; 10]);
     assert_eq!(three, [0, 0, 1, 1, 0, 1, 0, 1, 1, 1]);
     let shared = [0, 0, 1, 1, 0, 1, 0, 0, 0, 0];
-    let all: Vec<u32> =
-        (0..8).map(|word| TINY.disagreements(&TINY.clocked(word), &shared)).collect();
-    assert_eq!(all, [3, 6, 4, 3, 4, 7, 5, 8]);
+    assert_eq!(all_disagreements(&TINY, &shared), [3, 6, 4, 3, 4, 7, 5, 8]);
     for limit in 0..=10 {
         let expected = if limit < 3 { 17 } else { 18 };
         assert_eq!(check.nearest(&TINY, &shared, limit, 30), refused(expected, 0), "{limit}");
@@ -737,14 +809,22 @@ fn words_that_share_the_fewest_are_refused_if_within_the_limit() {
         let found = check.nearest(&TINY, &shared, limit, live as u32 - 1);
         assert_eq!(found, refused(16, 0), "{limit}");
     }
-    // One flip fewer, and word 3 alone is the nearest.
+    // One flip fewer, and word 3 alone is the nearest. Word 2 has one disagreement more.
     let nearer = [0, 0, 1, 1, 0, 1, 0, 1, 0, 0];
+    assert_eq!(all_disagreements(&TINY, &nearer), [4, 7, 3, 2, 5, 8, 4, 7]);
     assert_eq!(check.nearest(&TINY, &nearer, 1, 30), refused(17, 0));
     for limit in 2..=10 {
         let found = check.nearest(&TINY, &nearer, limit, 30).expect("one word is nearest");
-        assert_eq!((found.word, found.disagreements), (3, 2), "{limit}");
+        assert_eq!((found.word, found.disagreements, found.margin), (3, 2, 1), "{limit}");
     }
-    check.finish(&[("nearest", 0, 9), ("nearest", 16, 11), ("nearest", 17, 4), ("nearest", 18, 8)]);
+    check.finish(&[
+        ("nearest", 0, 9),
+        (NONE_WITHIN, 0, 1),
+        (NEXT_WITHIN, 0, 8),
+        ("nearest", 16, 11),
+        ("nearest", 17, 4),
+        ("nearest", 18, 8),
+    ]);
 }
 
 /// Words whose coded bits are all the same share the fewest disagreements even where these
@@ -766,7 +846,7 @@ fn words_with_the_same_coded_bits_are_refused() {
 fn random_patterns_of_small_codes_get_the_defined_answer() {
     let mut check = Check::new(26);
     for turn in 0..3_000 {
-        let code = if turn % 3 == 0 { random_code(&mut check.rng) } else { SMALL[turn / 3 % 4] };
+        let code = small_code(&mut check.rng, turn);
         let received = random_received(&mut check.rng, &code);
         let limit = check.rng.below(13) as u32;
         let live = code.live_counts(&received, limit).iter().sum::<u64>() as u32;
@@ -779,8 +859,105 @@ fn random_patterns_of_small_codes_get_the_defined_answer() {
     }
     check.finish(&[
         ("nearest", 0, 100),
+        (NONE_WITHIN, 0, 100),
+        (NEXT_WITHIN, 0, 100),
         ("nearest", 16, 100),
         ("nearest", 17, 100),
         ("nearest", 18, 100),
     ]);
+}
+
+// Margins on small codes
+
+/// Worked out by hand. Words 1, 2 and 4 of the tiny code have five ones among their coded bits, and
+/// the others, but for word 0, have more. The fifth coded bit is a one of all three: with that
+/// received as a one, word 0 has one disagreement, and they have four each.
+#[test]
+fn the_margins_of_a_tiny_code_are_as_worked_out() {
+    let mut check = Check::new(29);
+    let flipped = [0, 0, 0, 0, 1, 0, 0, 0, 0, 0];
+    for (received, disagreements, margins) in [
+        ([0; 10], 0, &[1, 2, 3, 4, 5, 5, 5, 5, 5, 5, 5][..]),
+        (flipped, 1, &[1, 2, 3, 3, 3, 3, 3, 3, 3, 3]),
+    ] {
+        for (limit, &margin) in (disagreements..=10).zip(margins) {
+            let found = check.nearest(&TINY, &received, limit, 30).expect("word 0 is nearest");
+            let told = (found.word, found.disagreements, found.margin);
+            assert_eq!(told, (0, disagreements, margin), "limit {limit}");
+        }
+    }
+    check.finish(&[("nearest", 0, 11 + 10), (NONE_WITHIN, 0, 5 + 3), (NEXT_WITHIN, 0, 6 + 7)]);
+}
+
+/// What the margin promises, with the disagreements of all words: every other word has as many more
+/// at least; and either one of them has just as many more and is within the limit, or none is within
+/// the limit, and the margin is what is left to limit + 1.
+fn hold_margin(counts: &mut Counts, all: &[u32], limit: u32, found: &Nearest) {
+    let Nearest { word, disagreements, margin, .. } = *found;
+    let mut others = all.to_vec();
+    assert_eq!(others.remove(word as usize), disagreements, "{found:?}");
+    let next = disagreements + margin;
+    assert!(margin >= 1, "{found:?}");
+    assert!(others.iter().all(|&other| other >= next), "{found:?}: {all:?}, limit {limit}");
+    if others.iter().any(|&other| other <= limit) {
+        assert!(next <= limit && others.contains(&next), "{found:?}: {all:?}, limit {limit}");
+        counts.count(NEXT_WITHIN, 0);
+    } else {
+        assert_eq!(next, limit + 1, "{found:?}: {all:?}, limit {limit}");
+        counts.count(NONE_WITHIN, 0);
+    }
+}
+
+#[test]
+fn no_word_is_nearer_than_the_margin_says() {
+    let mut counts = Counts::new();
+    for received in tiny_patterns() {
+        let all = all_disagreements(&TINY, &received);
+        for limit in 0..=10 {
+            if let Ok(found) = TINY.nearest(&received, limit, LARGEST_BUDGET) {
+                hold_margin(&mut counts, &all, limit, &found);
+            }
+        }
+    }
+    let mut rng = Rng::new(30);
+    for turn in 0..6_000 {
+        let code = small_code(&mut rng, turn);
+        let received = random_received(&mut rng, &code);
+        let limit = rng.below(13) as u32;
+        if let Ok(found) = code.nearest(&received, limit, LARGEST_BUDGET) {
+            hold_margin(&mut counts, &all_disagreements(&code, &received), limit, &found);
+        }
+    }
+    counts.finish(&[(NONE_WITHIN, 0, 1_500), (NEXT_WITHIN, 0, 5_000)]);
+}
+
+/// With every higher limit the margin grows by one, until the second nearest word is within the
+/// limit; from there on it is what that word has more, whatever the limit.
+#[test]
+fn the_margin_grows_with_the_limit_as_far_as_the_second_nearest_word() {
+    let mut counts = Counts::new();
+    let mut rng = Rng::new(31);
+    let mut patterns: Vec<(Code, Vec<u8>)> = tiny_patterns().map(|bits| (TINY, bits)).collect();
+    for turn in 0..1_000 {
+        let code = small_code(&mut rng, turn);
+        let received = random_received(&mut rng, &code);
+        patterns.push((code, received));
+    }
+    for (code, received) in patterns {
+        let mut all = all_disagreements(&code, &received);
+        all.sort();
+        let (nearest, second) = (all[0], all[1]);
+        for limit in nearest..=second + 2 {
+            let found = code.nearest(&received, limit, LARGEST_BUDGET);
+            let margin = found.map(|found| found.margin);
+            let expected = match second {
+                _ if second == nearest => refused(18, 0),
+                _ if second > limit => Ok(limit + 1 - nearest),
+                _ => Ok(second - nearest),
+            };
+            assert_eq!(margin, expected, "{code:?}, {received:?}, limit {limit}");
+            counts.count(case_of(second, limit), number_of(&margin));
+        }
+    }
+    counts.finish(&[(NONE_WITHIN, 0, 2_000), (NEXT_WITHIN, 0, 3_000), (NEXT_WITHIN, 18, 2_000)]);
 }

@@ -3,11 +3,14 @@
 //
 // Refusal 18, several words that share the fewest disagreements, can't be had here: words are 28
 // data bits apart or more, so no two of them are within a limit of 12. For the same reason no test
-// tells the nearest word from the first one found, but by the live count.
+// tells the nearest word from the first one found, but by the live count; and every margin is what
+// the disagreements leave to limit + 1.
+use std::collections::BTreeSet;
+
 use wsprcard_tests::answers::{refused_repair as refused, repaired_answer};
 use wsprcard_tests::card;
 use wsprcard_tests::counts::Counts;
-use wsprcard_tests::facts::{CLEAN, LEAST_DISTANCE, LIGHTEST};
+use wsprcard_tests::facts::{margin, CLEAN, LEAST_DISTANCE, LIGHTEST};
 use wsprcard_tests::inputs::{
     asked_with_faults, bad_symbol, bad_word, differing_places, edge_words, flipped, noise,
     random_frame, random_legal_word, random_places, random_word, resized, spoil_sync,
@@ -55,8 +58,8 @@ impl Check {
         let sync_wrong = self.rng.below(FRAME_LEN as u64 + 1) as u32;
         spoil_sync(&mut self.rng, &mut frame, sync_wrong as usize);
         let found = self.repair(&frame, 2, 16_000);
-        let expected = repaired(word, flips.len() as u32, found.live, sync_wrong);
-        assert_eq!(found, expected, "{word:#x} {flips:?}");
+        let expected = repaired(word, flips.len() as u32, found.live, 2);
+        assert_eq!(found, card::Repaired { sync_wrong, ..expected }, "{word:#x} {flips:?}");
         assert!((81..=CLEAN[4]).contains(&u64::from(found.live)), "{word:#x} {flips:?}");
     }
 
@@ -65,8 +68,18 @@ impl Check {
     }
 }
 
-fn repaired(word: u64, disagreements: u32, live: u32, sync_wrong: u32) -> card::Repaired {
-    card::Repaired { refusal: 0, place: 0, word, disagreements, live, sync_wrong }
+/// The answer where so many flips, within the limit, make this the nearest word. The sync bits are
+/// right.
+fn repaired(word: u64, flips: u32, live: u32, limit: u32) -> card::Repaired {
+    card::Repaired {
+        refusal: 0,
+        place: 0,
+        word,
+        disagreements: flips,
+        live,
+        sync_wrong: 0,
+        margin: margin(limit, flips),
+    }
 }
 
 /// What repair is to answer where so many flips make this the nearest word.
@@ -74,7 +87,7 @@ fn answer_by_live(live: u64, budget: u32, limit: u32, (word, flips): (u64, u32))
     match live {
         _ if live > u64::from(budget) => refused(16, 0),
         _ if flips > limit => refused(17, 0),
-        _ => repaired(word, flips, live as u32, 0),
+        _ => repaired(word, flips, live as u32, limit),
     }
 }
 
@@ -94,7 +107,7 @@ fn the_bench_sheet_holds() {
     for word in [259_047_992 * 4_194_304 + 2_942_821, 0, WORDS - 1] {
         let frame = frame_of(word);
         for (limit, live) in [(0, 81), (1, 81), (2, 131)] {
-            let expected = repaired(word, 0, live, 0);
+            let expected = repaired(word, 0, live, limit);
             assert_eq!(check.repair(&frame, limit, live), expected, "{word:#x}");
             assert_eq!(check.repair(&frame, limit, LARGEST_BUDGET), expected, "{word:#x}");
             assert_eq!(check.repair(&frame, limit, live - 1), refused(16, 0), "{word:#x}");
@@ -104,7 +117,7 @@ fn the_bench_sheet_holds() {
             assert_eq!(check.repair(&symbols, 2, 16_000), refused(1, 0), "{len} symbols");
         }
         assert_eq!(check.repair(&frame, 2, 130), refused(16, 0));
-        assert_eq!(check.repair(&frame, 2, 131), repaired(word, 0, 131, 0));
+        assert_eq!(check.repair(&frame, 2, 131), repaired(word, 0, 131, 2));
         assert_eq!(check.repair(&frame, 13, 16_000), refused(15, 0));
         assert_eq!(check.repair(&frame, 2, 0), refused(15, 1));
         assert_eq!(check.repair(&frame, 2, 65_537), refused(15, 1));
@@ -121,7 +134,7 @@ fn clean_frames_give_their_words() {
     sent.extend(edge_words().into_iter().map(|word| (word, frame_of(word))));
     for (word, frame) in sent {
         for (limit, live) in [(0, 81), (1, 81), (2, 131), (3, 279), (4, 569)] {
-            let expected = repaired(word, 0, live, 0);
+            let expected = repaired(word, 0, live, limit);
             assert_eq!(check.repair(&frame, limit, live), expected, "{word:#x}");
             assert_eq!(check.repair(&frame, limit, live - 1), refused(16, 0), "{word:#x}");
         }
@@ -212,14 +225,16 @@ fn sync_bits_are_counted_and_never_refuse() {
         let word = random_word(&mut check.rng);
         let mut frame = frame_of(word);
         frame[place] ^= 1;
-        assert_eq!(check.repair(&frame, 2, 131), repaired(word, 0, 131, 1), "{word:#x} {place}");
+        let expected = card::Repaired { sync_wrong: 1, ..repaired(word, 0, 131, 2) };
+        assert_eq!(check.repair(&frame, 2, 131), expected, "{word:#x} {place}");
     }
     for count in 0..=FRAME_LEN {
         let word = random_word(&mut check.rng);
         let mut frame = frame_of(word);
         spoil_sync(&mut check.rng, &mut frame, count);
         for (limit, live) in [(0, 81), (1, 81), (2, 131)] {
-            let expected = repaired(word, 0, live, count as u32);
+            let expected = repaired(word, 0, live, limit);
+            let expected = card::Repaired { sync_wrong: count as u32, ..expected };
             assert_eq!(check.repair(&frame, limit, live), expected, "{word:#x} {count}");
         }
         frame[0] ^= 2;
@@ -227,7 +242,8 @@ fn sync_bits_are_counted_and_never_refuse() {
         assert_eq!(check.repair(&frame, 8, 1), refused(16, 0), "{word:#x} {count}");
     }
     let inverted = sync().map(|bit| 1 - bit);
-    assert_eq!(check.repair(&inverted, 0, 81), repaired(0, 0, 81, 162));
+    let expected = card::Repaired { sync_wrong: 162, ..repaired(0, 0, 81, 0) };
+    assert_eq!(check.repair(&inverted, 0, 81), expected);
     check.finish(&[("repair", 0, 162 + 3 * 163 + 1), ("repair", 16, 163), ("repair", 17, 163)]);
 }
 
@@ -315,6 +331,36 @@ fn the_nearer_of_two_words_is_the_answer() {
         }
     }
     check.finish(&[("repair", 0, 200), ("repair", 16, 100), ("repair", 17, 200)]);
+}
+
+/// Every number of flips within every limit, at random places and among the first coded bits. Four
+/// or more of those leave the live count within the budget at limits 10 and 11, too.
+#[test]
+fn the_margin_is_what_the_flips_leave_of_the_limit() {
+    let mut check = Check::new(24);
+    let mut told = BTreeSet::new();
+    for limit in 0..=12 {
+        for flips in 0..=limit {
+            for turn in 0..6 {
+                let word = random_word(&mut check.rng);
+                let flipped_places = match turn % 2 {
+                    0 => random_places(&mut check.rng, flips as usize),
+                    _ => places().take(flips as usize).collect(),
+                };
+                let frame = flipped(frame_of(word), &flipped_places);
+                let found = check.repair(&frame, limit, LARGEST_BUDGET);
+                if found.refusal == 0 {
+                    assert_eq!(found.margin, limit + 1 - flips, "{word:#x} {flips} {limit}");
+                    told.insert((limit, found.margin));
+                }
+            }
+        }
+    }
+    for limit in 0..=11 {
+        let largest = if limit <= 9 { limit + 1 } else { limit + 1 - 4 };
+        assert!((1..=largest).all(|margin| told.contains(&(limit, margin))), "limit {limit}");
+    }
+    check.finish(&[("repair", 0, 400), ("repair", 16, 100)]);
 }
 
 /// Any symbols 0 to 3: nothing is near them.

@@ -286,7 +286,7 @@ fn plain(answer: &Result<Answer, Refused>) -> String {
 }
 
 fn plain_repair(repaired: &Repaired, told: &Told) -> String {
-    let Repaired { word, disagreements, live, sync_wrong } = repaired;
+    let Repaired { word, disagreements, live, sync_wrong, margin } = repaired;
     let told = match told {
         Err(refused) => plain_refusal(refused),
         Ok((message, Ok(report))) => {
@@ -298,7 +298,7 @@ fn plain_repair(repaired: &Repaired, told: &Told) -> String {
     };
     format!(
         "word {word:013x}; message {told}; disagreements {disagreements}; live {live}; \
-         sync wrong {sync_wrong}"
+         sync wrong {sync_wrong}; margin {margin}"
     )
 }
 
@@ -342,7 +342,7 @@ fn json(answer: &Result<Answer, Refused>) -> String {
 }
 
 fn json_repair(repaired: &Repaired, told: &Told) -> String {
-    let Repaired { word, disagreements, live, sync_wrong } = repaired;
+    let Repaired { word, disagreements, live, sync_wrong, margin } = repaired;
     let told = match told {
         Err(refused) => json_refusal(refused),
         Ok((message, report)) => {
@@ -354,7 +354,7 @@ fn json_repair(repaired: &Repaired, told: &Told) -> String {
         }
     };
     format!(
-        r#"{{"word":"{word:013x}","message":{told},"disagreements":{disagreements},"live":{live},"sync_wrong":{sync_wrong}}}"#
+        r#"{{"word":"{word:013x}","message":{told},"disagreements":{disagreements},"live":{live},"sync_wrong":{sync_wrong},"margin":{margin}}}"#
     )
 }
 

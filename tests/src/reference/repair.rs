@@ -1,6 +1,6 @@
-// Repair: the word nearest to a damaged frame, and the live count. Both are written for codes
-// of any size, once straight from the definitions, over all prefixes and all words, and once
-// as a search that ends for words of 50 bits too. On small codes the two can be compared.
+// Repair: the word nearest to a damaged frame, its margin, and the live count. They are written
+// for codes of any size, once straight from the definitions, over all prefixes and all words, and
+// once as a search that ends for words of 50 bits too. On small codes the two can be compared.
 use super::frame;
 use super::Refusal;
 use std::iter;
@@ -14,14 +14,16 @@ pub struct Repaired {
     pub disagreements: u32,
     pub live: u32,
     pub sync_wrong: u32,
+    pub margin: u32,
 }
 
 pub fn repair(frame: &[u8], limit: u32, budget: u32) -> Result<Repaired, Refusal> {
     frame::check_length(frame.len())?;
     check_range(limit, budget)?;
     frame::check_symbols(frame)?;
-    let Nearest { word, disagreements, live } = WSPR.nearest(&data_bits(frame), limit, budget)?;
-    Ok(Repaired { word, disagreements, live, sync_wrong: sync_wrong(frame) })
+    let Nearest { word, disagreements, live, margin } =
+        WSPR.nearest(&data_bits(frame), limit, budget)?;
+    Ok(Repaired { word, disagreements, live, sync_wrong: sync_wrong(frame), margin })
 }
 
 fn check_range(limit: u32, budget: u32) -> Result<(), Refusal> {
@@ -68,12 +70,14 @@ pub struct Code {
 pub const WSPR: Code =
     Code { word_bits: 50, register_bits: 32, masks: frame::MASKS, tail: frame::ZEROS };
 
-/// The one word with the fewest disagreements, and the live count.
+/// The one word with the fewest disagreements, the live count, and how many more disagreements the
+/// next nearest word has.
 #[derive(Clone, Copy, Debug, PartialEq, Eq)]
 pub struct Nearest {
     pub word: u64,
     pub disagreements: u32,
     pub live: u32,
+    pub margin: u32,
 }
 
 // By definition
@@ -150,12 +154,21 @@ impl Code {
         if disagreements > limit {
             return Err(Refusal { number: 17, place: 0 });
         }
-        let mut nearest = (0..).zip(all).filter(|&(_, fewest)| fewest == disagreements);
-        match (nearest.next(), nearest.next()) {
-            (Some((word, _)), None) => Ok(Nearest { word, disagreements, live: live as u32 }),
-            _ => Err(Refusal { number: 18, place: 0 }),
-        }
+        let mut nearest = (0..all.len()).filter(|&word| all[word] == disagreements);
+        let (Some(word), None) = (nearest.next(), nearest.next()) else {
+            return Err(Refusal { number: 18, place: 0 });
+        };
+        let margin = margin_by_definition(&all, word, limit);
+        Ok(Nearest { word: word as u64, disagreements, live: live as u32, margin })
     }
+}
+
+/// Of the disagreements of all words: how many more the next nearest word has than this one. If no
+/// other word is within the limit, that next is taken as limit + 1.
+fn margin_by_definition(all: &[u32], word: usize, limit: u32) -> u32 {
+    let others = (0..all.len()).filter(|&other| other != word).map(|other| all[other]);
+    let next = others.filter(|&disagreements| disagreements <= limit).min();
+    next.unwrap_or(limit + 1) - all[word]
 }
 
 fn parity(bits: u32) -> u8 {
@@ -221,7 +234,8 @@ impl Code {
     }
 
     /// What repair answers. Once the count is above the budget the answer is known, whatever
-    /// else there is to count. The longest live prefixes are the words within the limit.
+    /// else there is to count. The longest live prefixes are the words within the limit; sorted by
+    /// their disagreements, the second is the next nearest, if there is one.
     pub fn nearest(&self, received: &[u8], limit: u32, budget: u32) -> Result<Nearest, Refusal> {
         let mut count = 0;
         let mut words = Vec::new();
@@ -238,9 +252,13 @@ impl Code {
             [first, second, ..] if first.disagreements == second.disagreements => {
                 Err(Refusal { number: 18, place: 0 })
             }
-            [Prefix { clocked, disagreements, .. }, ..] => {
+            [Prefix { clocked, disagreements, .. }, ref others @ ..] => {
                 let word = (clocked >> self.tail) as u64;
-                Ok(Nearest { word, disagreements, live: count as u32 })
+                let margin = match others {
+                    [] => limit + 1 - disagreements,
+                    [second, ..] => second.disagreements - disagreements,
+                };
+                Ok(Nearest { word, disagreements, live: count as u32, margin })
             }
         }
     }
