@@ -44,8 +44,8 @@ static const struct {
 #define REPAIR_HELP \
     "The answer is the word, its message, the message's telemetry, the disagreements,\n" \
     "the live count, the number of wrong sync bits and the margin: how many more\n" \
-    "disagreements the next nearest word has, which counts as limit + 1 where no\n" \
-    "other word is within the limit.\n"
+    "disagreements the next nearest word has. Where no other word is within the\n" \
+    "limit, the next is taken to have limit + 1.\n"
 #define COUNTS_HELP \
     "\n" \
     "The live count of a clean frame, in which no data bit is flipped, by limit:\n" \

@@ -149,9 +149,9 @@ wspr_message wspr_read_message(const uint8_t *frame, size_t frame_len, uint8_t *
  * limits up to 7, with 65,536 at limits up to 9, and at limits 10 to 12 with none. So use limits up to 9. A frame with
  * flipped data bits can have a lower or a higher live count.
  *
- * The margin: every other word has at least so many more disagreements than the answer. Where another word is within the
- * limit, the next nearest has exactly so many more. Where none is, the next is taken as limit + 1, so that the margin
- * grows with the limit: it says how far was looked, and other words may be further away than that.
+ * The margin: every other word has at least so many more disagreements than the answer. Where another word is within
+ * the limit, the next nearest has exactly so many more. Where none is, the next is taken to have limit + 1, so that the
+ * margin is limit + 1 less the disagreements. It grows with the limit, and other words may be further away than that.
  *
  * Refusals 1, 15, 7, 16, 17, 18, in that order. Sync bits never refuse a repair: the wrong ones are counted. Whichever
  * word was sent, and whichever of its frame's data bits were flipped, two at most, limit 2 and budget 16,000 give it

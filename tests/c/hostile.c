@@ -449,12 +449,13 @@ static void hold_repaired(const uint8_t *frame, uint32_t limit, uint32_t budget,
     hold(again.margin == 1, "at a limit of just the disagreements no other word is within it, and the margin is 1");
 }
 
-/* By its definition the margin is at least 1 and leads to limit + 1 at most. Here it leads just there: words are 28
- * data bits apart or more, which tests/tests/repair.rs counts, so none but the answer is within a limit of 12. */
+/* By their definitions the margin is at least 1, and disagreements and margin are at most limit + 1 together. Here they
+ * are just that: words are 28 data bits apart or more, which tests/tests/repair.rs counts, so none but the answer is
+ * within a limit of 12. */
 static void hold_margin(uint32_t limit, wspr_repaired r)
 {
     hold(r.margin >= 1, "the next nearest word has more disagreements");
-    hold(r.disagreements + r.margin == limit + 1, "the margin is what the disagreements leave to limit + 1");
+    hold(r.disagreements + r.margin == limit + 1, "disagreements and margin are limit + 1 together");
 }
 
 /* The live count is the least budget that is enough. */

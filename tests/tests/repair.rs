@@ -889,9 +889,9 @@ fn the_margins_of_a_tiny_code_are_as_worked_out() {
     check.finish(&[("nearest", 0, 11 + 10), (NONE_WITHIN, 0, 5 + 3), (NEXT_WITHIN, 0, 6 + 7)]);
 }
 
-/// What the margin promises, with the disagreements of all words: every other word has as many more
-/// at least; and either one of them has just as many more and is within the limit, or none is within
-/// the limit, and the margin is what is left to limit + 1.
+/// What the margin promises, with the disagreements of all words: every other word has at least as
+/// many more; and either one of them has just as many more and is within the limit, or none is
+/// within the limit, and disagreements and margin are limit + 1 together.
 fn hold_margin(counts: &mut Counts, all: &[u32], limit: u32, found: &Nearest) {
     let Nearest { word, disagreements, margin, .. } = *found;
     let mut others = all.to_vec();

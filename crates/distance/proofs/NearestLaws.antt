@@ -10,7 +10,7 @@ use borrow.Author.Tests.{eq-eqb, eqb-true, lt-ltb, le-ltb, le-leb, lt-leb}
 use Rattle.basics.proofs.BelowLaws.{count-two, count-only, count-found-two, count-single, last-single, least-below, least-reached}
 use Rattle.basics.proofs.Choice.{below-or-not, equal-or-not}
 use Rattle.distance.specs.Prefixes.{wordDisagreements}
-use Rattle.distance.specs.Nearest.{fewest, hasFewest, sharing, nearestWord, otherThan, fewestOfOthers, nextFewest, margin, AtMostAll, OnlyNearest, IsMargin}
+use Rattle.distance.specs.Nearest.{fewest, hasFewest, sharing, nearestWord, otherThan, fewestOfOthers, nextFewest, nearestMargin, AtMostAll, OnlyNearest, IsMargin}
 
 -- ---- The numbers other than one
 
@@ -147,16 +147,16 @@ margin-to received limit word next from most least found =
           below-or-not limit next
           (λ past.
           inr (record {
-            no-other = λ other h different. omega (arith, least other h different);
-            up-to-limit = omega arith;
+            none-within = λ other h different. omega (arith, least other h different);
+            next-after-limit = omega arith;
           }))
           (λ within.
           let there = found within in
           inl (record {
-            next = there .0;
-            next-word = there .1 .0;
+            other = there .0;
+            in-50-bits = there .1 .0;
             different = there .1 .1 .0;
-            more = omega (arith, there .1 .1 .1);
+            more-by-margin = omega (arith, there .1 .1 .1);
             within-limit = omega (arith, there .1 .1 .1);
           }));
     }
@@ -179,7 +179,8 @@ module _ (received : List ℕ) (limit word : ℕ) (only : OnlyNearest received w
   others-reached =
       rw (nearest-only received word only)
       (let found = least-reached (2 ^ 50 - 2) (λ i. of (otherThan word i)) in
-      (otherThan word (found .0), (other-below word (2 ^ 50) (found .0) (omega (arith, found .1 .0)), (other-different word (found .0), found .1 .1))))
+      let below = other-below word (2 ^ 50) (found .0) (omega (arith, found .1 .0)) in
+      (otherThan word (found .0), (below, (other-different word (found .0), found .1 .1))))
 
   others-from : (n : ℕ) → ((other : ℕ) → other < 2 ^ 50 → (other ≡ word → ⊥) → n ≤ of other) → n ≤ fewestOfOthers received
   others-from n least =
@@ -198,8 +199,8 @@ module _ (received : List ℕ) (limit word : ℕ) (only : OnlyNearest received w
 
   -- ---- The margin defined is the margin of the nearest word, where this is within the limit, and the only one
 
-  pub margin-is : of word ≤ limit → IsMargin received limit word (margin received limit)
-  unfolding margin
+  pub margin-is : of word ≤ limit → IsMargin received limit word (nearestMargin received limit)
+  unfolding nearestMargin
   margin-is near =
       rw (fewest-only received word only)
       (below-or-not limit (fewestOfOthers received)
@@ -213,16 +214,16 @@ module _ (received : List ℕ) (limit word : ℕ) (only : OnlyNearest received w
       (margin-to received limit word (fewestOfOthers received)
       (omega (arith, others-from (suc (of word)) (only .1))) (omega arith) others-below (λ _. others-reached))))
 
-  pub is-margin : (m : ℕ) → IsMargin received limit word m → margin received limit ≡ m
-  unfolding margin
+  pub is-margin : (m : ℕ) → IsMargin received limit word m → nearestMargin received limit ≡ m
+  unfolding nearestMargin
   is-margin m is =
       rw (fewest-only received word only)
       (⊎-elim
       (λ there.
       let as-few : fewestOfOthers received ≡ of word + m =
-      omega (arith, others-below (there .next) (there .next-word) (there .different), there .more, others-from (of word + m) (is .at-least)) in
-      rw (next-others (omega (arith, there .more, there .within-limit))) (omega arith))
+      omega (arith, others-below (there .other) (there .in-50-bits) (there .different), there .more-by-margin, others-from (of word + m) (is .at-least)) in
+      rw (next-others (omega (arith, there .more-by-margin, there .within-limit))) (omega arith))
       (λ none.
-      let past : limit < fewestOfOthers received = others-from (suc limit) (none .no-other) in
-      rw (next-limit past) (omega (arith, none .up-to-limit)))
+      let past : limit < fewestOfOthers received = others-from (suc limit) (none .none-within) in
+      rw (next-limit past) (omega (arith, none .next-after-limit)))
       (is .exactly))

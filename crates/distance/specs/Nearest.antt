@@ -37,9 +37,9 @@ fewestOfOthers received = leastUpTo (2 ^ 50 - 2) (λ i. wordDisagreements receiv
 unfoldable pub nextFewest : List ℕ → ℕ → ℕ
 nextFewest received limit = cond (leb (fewestOfOthers received) limit) (fewestOfOthers received) (limit + 1)
 
--- "how many more disagreements the next nearest word has"
-unfoldable pub margin : List ℕ → ℕ → ℕ
-margin received limit = nextFewest received limit - fewest received
+-- The margin of the nearest word: "how many more disagreements the next nearest word has".
+unfoldable pub nearestMargin : List ℕ → ℕ → ℕ
+nearestMargin received limit = nextFewest received limit - fewest received
 
 -- ---- What is asked of a word and of a margin
 
@@ -53,21 +53,22 @@ abbrev pub OnlyNearest : List ℕ → ℕ → Type 0
 OnlyNearest received word =
     (word < 2 ^ 50) × ((other : ℕ) → other < 2 ^ 50 → (other ≡ word → ⊥) → wordDisagreements received word < wordDisagreements received other)
 
--- Another word has as many more disagreements than the word as the margin says, and is within the limit.
-pub record NextWithin (received : List ℕ) (limit word margin : ℕ) : Type 0 where
-  pub next : ℕ
-  pub next-word : next < 2 ^ 50
-  pub different : next ≡ word → ⊥
-  pub more : wordDisagreements received next ≡ wordDisagreements received word + margin
-  pub within-limit : wordDisagreements received next ≤ limit
+-- Another word is within the limit, and has as many more disagreements than the word as the margin says.
+pub record OtherWithin (received : List ℕ) (limit word margin : ℕ) : Type 0 where
+  pub other : ℕ
+  pub in-50-bits : other < 2 ^ 50
+  pub different : other ≡ word → ⊥
+  pub more-by-margin : wordDisagreements received other ≡ wordDisagreements received word + margin
+  pub within-limit : wordDisagreements received other ≤ limit
 
--- "no other word is within the limit"; then the next "is taken as limit + 1", and the margin is that less the word's disagreements.
-pub record NoneNext (received : List ℕ) (limit word margin : ℕ) : Type 0 where
-  pub no-other : (other : ℕ) → other < 2 ^ 50 → (other ≡ word → ⊥) → limit < wordDisagreements received other
-  pub up-to-limit : wordDisagreements received word + margin ≡ limit + 1
+-- "no other word is within the limit": the next "is taken as limit + 1", and the margin is that less the word's disagreements.
+pub record NoOtherWithin (received : List ℕ) (limit word margin : ℕ) : Type 0 where
+  pub none-within : (other : ℕ) → other < 2 ^ 50 → (other ≡ word → ⊥) → limit < wordDisagreements received other
+  pub next-after-limit : wordDisagreements received word + margin ≡ limit + 1
 
--- The margin of a word: every other word has at least so many more disagreements, and the next nearest exactly so many.
+-- The margin of a word: every other word has at least so many more disagreements; and the next nearest has exactly so many more, or, where
+-- no other word is within the limit, the next that is taken in its place.
 pub record IsMargin (received : List ℕ) (limit word margin : ℕ) : Type 0 where
   pub at-least : (other : ℕ) → other < 2 ^ 50 → (other ≡ word → ⊥)
       → wordDisagreements received word + margin ≤ wordDisagreements received other
-  pub exactly : NextWithin received limit word margin ⊎ NoneNext received limit word margin
+  pub exactly : OtherWithin received limit word margin ⊎ NoOtherWithin received limit word margin

@@ -111,13 +111,14 @@ module _ (frame : List ℕ) (limit budget : ℕ) where
   unfolding nearestOf nearestWith
   nearestOf-is near one =
       let only = only-nearest received one in
+      let few = fewest-only received (nearestWord received) only in
       record {
         only-nearest = only;
-        its-disagreements = fewest-only received (nearestWord received) only;
+        its-disagreements = few;
         within-limit = near;
         live-count = refl;
         wrong-sync = refl;
-        its-margin = margin-is received limit (nearestWord received) only (omega (arith, fewest-only received (nearestWord received) only));
+        its-margin = margin-is received limit (nearestWord received) only (omega arith);
       }
 
   is-nearestOf : (n : Nearest) → IsNearest frame limit n → nearestOf frame limit ≡ n

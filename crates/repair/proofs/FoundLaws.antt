@@ -70,8 +70,9 @@ module _ (received : List ℕ) (limit : ℕ) (best : Best) (b : BestBelow receiv
 
   best-margin : best .fewest ≤ limit → IsMargin received limit (best .word) (best .next - best .fewest)
   best-margin near =
-      rw (← b .fewest-found near .1)
-      (margin-to received limit (best .word) (best .next) (omega (arith, b .in-order, b .fewest-found near .1)) (b .next-most) (b .next-least) (b .next-found))
+      let its = b .fewest-found near .1 in
+      rw (← its)
+      (margin-to received limit (best .word) (best .next) (omega (arith, b .in-order, its)) (b .next-most) (b .next-least) (b .next-found))
 
   best-shared : best .fewest ≤ limit → best .next ≤ best .fewest → Shared received limit
   best-shared near shared =

@@ -10,7 +10,7 @@ use Rattle.refusal.specs.Refusals.{refusal, wrongLength, symbolTooLarge, badBou
 use Rattle.frame.specs.Symbols.{receivedBits, wrongSyncIn}
 use Rattle.frame.specs.Answer.{firstLarge}
 use Rattle.distance.specs.Prefixes.{liveCount}
-use Rattle.distance.specs.Nearest.{fewest, sharing, nearestWord, margin}
+use Rattle.distance.specs.Nearest.{fewest, sharing, nearestWord, nearestMargin}
 use Rattle.repair.specs.declared.Nearest.{Nearest}
 use Rattle.repair.specs.declared.RepairAnswer.{RepairAnswer}
 
@@ -33,7 +33,7 @@ nearestWith frame limit word disagreements margin =
 unfoldable pub nearestOf : List ℕ → ℕ → Nearest
 nearestOf frame limit =
     let received = receivedBits frame in
-    nearestWith frame limit (nearestWord received) (fewest received) (margin received limit)
+    nearestWith frame limit (nearestWord received) (fewest received) (nearestMargin received limit)
 
 -- The one word with the fewest disagreements where these are at most the limit, or why there is none. If the fewest lie above the limit,
 -- 17 is given, shared or not.

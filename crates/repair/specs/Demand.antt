@@ -95,8 +95,8 @@ flippedAt word frame place = not (eqb (dataAt frame place) (dataAt (frameOf word
 unfoldable pub flips : ℕ → List ℕ → ℕ
 flips word frame = countBelow 162 (flippedAt word frame)
 
--- The sent word, "with the number of flipped bits as its disagreements", and what else the answer holds. No other word is within the limit,
--- so the next "is taken as limit + 1".
+-- The sent word, "with the number of flipped bits as its disagreements", and what else the answer holds. At limit 2 and with two flips at
+-- most no other word is within the limit, so that the next "is taken as limit + 1".
 unfoldable pub givenBack : ℕ → List ℕ → ℕ → Nearest
 givenBack word frame limit = nearestWith frame limit word (flips word frame) (limit + 1 - flips word frame)
 

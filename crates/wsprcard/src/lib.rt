@@ -68,8 +68,8 @@ pub struct WsprMessage {
 }
 
 // Refusal number (0: success), place, and the nearest word with what belongs to it. To C the fields of
-// `nearest` are the struct's own, one after another: they start where its first would stand, at byte 8.
-// It must stay last, as a field after it would stand behind its padding.
+// `nearest` are the struct's own, one after another: they start where its first would stand, at byte 8,
+// and no padding follows them.
 #[repr(C)]
 pub struct WsprRepaired {
     pub refusal: u32,
