@@ -17,11 +17,11 @@ use Rattle.distance.specs.Nearest.{fewest, hasFewest, sharing, nearestWo
 module _ (n : ℕ) where
   lower-other : (i : ℕ) → i < n → otherThan n i ≡ i
   unfolding otherThan
-  lower-other i h = rw (lt-ltb i n h)
+  lower-other i h = rw (lt-ltb i n h) (omega arith)
 
   upper-other : (i : ℕ) → n ≤ i → otherThan n i ≡ i + 1
   unfolding otherThan
-  upper-other i h = rw (le-ltb i n h)
+  upper-other i h = rw (le-ltb i n h) (omega arith)
 
   other-different : (i : ℕ) → otherThan n i ≡ n → ⊥
   other-different i e = below-or-not i n (λ h. omega (arith, lower-other i h)) (λ h. omega (arith, upper-other i h))
@@ -191,11 +191,11 @@ module _ (received : List ℕ) (limit word : ℕ) (only : OnlyNearest received w
 
   next-others : fewestOfOthers received ≤ limit → nextFewest received limit ≡ fewestOfOthers received
   unfolding nextFewest
-  next-others within = rw (le-leb (fewestOfOthers received) limit within)
+  next-others within = rw (le-leb (fewestOfOthers received) limit within) (omega arith)
 
   next-limit : limit < fewestOfOthers received → nextFewest received limit ≡ limit + 1
   unfolding nextFewest
-  next-limit past = rw (lt-leb (fewestOfOthers received) limit past)
+  next-limit past = rw (lt-leb (fewestOfOthers received) limit past) (omega arith)
 
   -- ---- The margin defined is the margin of the nearest word, where this is within the limit, and the only one
 
