@@ -469,15 +469,20 @@ static void hold_live(const uint8_t *frame, uint32_t limit, wspr_repaired r)
     hold(less.refusal == 16, "a budget below the live count is refused 16");
 }
 
-/* What is promised of two flipped data bits at most; and that a known word is never passed over for a farther one. */
+/* What is promised of two flipped data bits at most, of three, and of a word other than the sent one; and that a known
+ * word is never passed over for a farther one. */
 static void hold_sent_word(const struct frame_input *f, uint32_t limit, uint32_t budget, wspr_repaired r)
 {
     if (f->flips <= 2 && limit == 2 && budget >= 16000 && budget <= 65536) {
         hold(r.refusal == 0 && r.word == f->word && r.disagreements == f->flips, "two flipped data bits are repaired");
         hold(r.margin == 3 - f->flips, "at limit 2 the margin is 3 less the number of flipped data bits");
     }
+    if (f->flips == 3 && limit == 2 && budget >= 1 && budget <= 65536)
+        hold(r.refusal == 16 || r.refusal == 17, "at limit 2 three flipped data bits give no word");
     if (f->flips <= limit)
         hold(r.refusal != 17, "a word within the limit isn't refused 17");
+    if (r.refusal == 0 && r.word != f->word)
+        hold(f->flips + r.disagreements >= 6, "another word takes six flipped data bits less its disagreements");
     if (r.refusal == 0)
         hold(r.disagreements <= f->flips, "the nearest word is as near as the one that was sent");
 }

@@ -961,3 +961,51 @@ fn the_margin_grows_with_the_limit_as_far_as_the_second_nearest_word() {
     }
     counts.finish(&[(NONE_WITHIN, 0, 2_000), (NEXT_WITHIN, 0, 3_000), (NEXT_WITHIN, 18, 2_000)]);
 }
+
+// Flips on small codes
+
+/// How a flipped word fares: more flips than the limit, and with it fewer than the least distance;
+/// or another word is the answer, with flips and disagreements together as many as the least
+/// distance, or more.
+const NO_WORD: &str = "no word";
+const JUST_ENOUGH: &str = "another word, by just enough flips";
+const MORE: &str = "another word, by more flips";
+
+/// In how many coded bits two words differ at least: a code is linear, so that it is the least
+/// number of ones of a word that isn't 0.
+fn least_distance(code: &Code) -> u32 {
+    let ones = all_disagreements(code, &vec![0; 2 * code.clocked_len()]);
+    ones[1..].iter().copied().min().expect("a code has words")
+}
+
+/// Every pattern of the tiny code, and random ones of others, with any word taken for the sent one.
+#[test]
+fn below_the_least_distance_flips_give_no_other_word() {
+    let mut counts = Counts::new();
+    let mut rng = Rng::new(33);
+    let mut patterns: Vec<(Code, Vec<u8>)> = tiny_patterns().map(|bits| (TINY, bits)).collect();
+    for turn in 0..1_000 {
+        let code = small_code(&mut rng, turn);
+        let received = random_received(&mut rng, &code);
+        patterns.push((code, received));
+    }
+    assert_eq!(least_distance(&TINY), 5);
+    for (code, received) in patterns {
+        let least = least_distance(&code);
+        let flips = all_disagreements(&code, &received);
+        for limit in 0..=12 {
+            let found = code.nearest(&received, limit, LARGEST_BUDGET);
+            if flips.iter().any(|&flips| limit < flips && flips + limit < least) {
+                assert_eq!(found, refused(17, 0), "{code:?}, {received:?}, limit {limit}");
+                counts.count(NO_WORD, 17);
+            }
+            let Ok(Nearest { word, disagreements, .. }) = found else { continue };
+            for other in (0..flips.len()).filter(|&other| other as u64 != word) {
+                let together = flips[other] + disagreements;
+                assert!(together >= least, "{code:?}, {received:?}, limit {limit}, word {other}");
+                counts.count(if together == least { JUST_ENOUGH } else { MORE }, 0);
+            }
+        }
+    }
+    counts.finish(&[(NO_WORD, 17, 500), (JUST_ENOUGH, 0, 5_000), (MORE, 0, 1_000_000)]);
+}

@@ -63,6 +63,18 @@ impl Check {
         assert!((81..=CLEAN[4]).contains(&u64::from(found.live)), "{word:#x} {flips:?}");
     }
 
+    /// Flips these three data bits of a word's frame and any number of its sync bits; limit 2 has
+    /// to give no word, whatever the budget.
+    fn give_none(&mut self, frame: &Frame, flips: &[usize; 3]) {
+        let mut frame = flipped(*frame, flips);
+        let spoiled = self.rng.below(FRAME_LEN as u64 + 1) as usize;
+        spoil_sync(&mut self.rng, &mut frame, spoiled);
+        let few = self.rng.between(1, 200) as u32;
+        let budget = self.rng.pick(&[few, 16_000, LARGEST_BUDGET]);
+        let found = self.repair(&frame, 2, budget);
+        assert!([refused(16, 0), refused(17, 0)].contains(&found), "{flips:?} {budget} {found:?}");
+    }
+
     fn finish(self, at_least: &[(&'static str, u32, u64)]) {
         self.counts.finish(at_least);
     }
@@ -249,17 +261,42 @@ fn sync_bits_are_counted_and_never_refuse() {
 
 // More flips
 
+/// Every way of flipping three data bits of some words' frames, with budgets around the live counts.
 #[test]
-fn three_flips_are_refused_at_limit_2() {
-    let mut check = Check::new(9);
-    for _ in 0..20_000 {
-        let mut frame = random_frame(&mut check.rng);
-        for place in random_places(&mut check.rng, 3) {
-            frame[place] ^= 2 + check.rng.below(2) as u8;
+fn every_three_flips_give_no_word_at_limit_2() {
+    let mut check = Check::new(25);
+    for word in [0, WORDS - 1, random_word(&mut check.rng), random_legal_word(&mut check.rng)] {
+        let frame = frame_of(word);
+        for first in 0..FRAME_LEN {
+            for second in 0..first {
+                for third in 0..second {
+                    check.give_none(&frame, &[first, second, third]);
+                }
+            }
         }
-        assert_eq!(check.repair(&frame, 2, 16_000), refused(17, 0), "{frame:?}");
     }
-    check.finish(&[("repair", 17, 20_000)]);
+    check.finish(&[("repair", 16, 500_000), ("repair", 17, 1_500_000)]);
+}
+
+/// The same of many words, with the live count and so 16 or 17 told beforehand.
+#[test]
+fn three_flips_of_any_word_give_no_word_at_limit_2() {
+    let mut check = Check::new(9);
+    let mut words = sent_words(&mut check.rng, 1_000);
+    words.extend(edge_words());
+    for turn in 0..40_000 {
+        let word = words[turn % words.len()];
+        let places = random_places(&mut check.rng, 3);
+        let mut frame = flipped(frame_of(word), &places);
+        let spoiled = check.rng.below(FRAME_LEN as u64 + 1) as usize;
+        spoil_sync(&mut check.rng, &mut frame, spoiled);
+        let live = live_count(&frame, 2) as u32;
+        for budget in [1, live.max(2) - 1, live.max(1), 16_000, LARGEST_BUDGET] {
+            let expected = answer_by_live(u64::from(live), budget, 2, (word, 3));
+            assert_eq!(check.repair(&frame, 2, budget), expected, "{word:#x} {places:?} {budget}");
+        }
+    }
+    check.finish(&[("repair", 16, 60_000), ("repair", 17, 120_000)]);
 }
 
 /// Flips within the limit are repaired and more are refused, unless the live count is above

@@ -1,4 +1,4 @@
--- Laws of prefixes: how many there are, the prefixes of a word, which are live, and what a longer prefix adds.
+-- Laws of prefixes: how many there are, the prefixes of a word, its disagreements, which are live, and what a longer prefix adds.
 use mathlib.Core.Path.{_≡_, refl, sym, ap, _∙_}
 use Prim.Native.Nat.{ℕ, zero, suc, _+_, _-_, _*_, _/_, _^_, _≤_, _<_, min}
 use native.Mathlib.Nat.{add-comm, div-one, sub-self}
@@ -12,9 +12,9 @@ use borrow.Author.Tests.{le-leb, lt-leb, leb-true}
 use Rattle.basics.proofs.Choice.{below-or-not}
 use Rattle.radix.specs.Numeral.{numberOf, digitsOf}
 use Rattle.convolution.specs.Code.{bitsOf, clockedBits, clocked, codedFrom, codedBits}
-use Rattle.convolution.proofs.CodeLaws.{count-bits, bits-number, length-bitsOf, coded-below}
+use Rattle.convolution.proofs.CodeLaws.{count-bits, bits-number, length-bitsOf, length-codedBits, coded-below}
 use Rattle.distance.specs.Prefixes.{freeOf, prefixBits, prefixesOf, differences, disagreements, wordDisagreements, isLive}
-use Rattle.distance.proofs.Bits.{AllBits, bits-each, differences-grow}
+use Rattle.distance.proofs.Bits.{AllBits, bits-each, differences-sym, triangle, differences-grow}
 
 -- ---- The prefixes of a word
 
@@ -110,6 +110,19 @@ word-prefix word = rw (free-later 81 (omega arith))
 pub word-disagreements : (received : List ℕ) (word : ℕ) → wordDisagreements received word ≡ differences (codedBits word) received
 unfolding wordDisagreements disagreements codedBits
 word-disagreements received word = rw (word-prefix word)
+
+-- Where two words' coded bits differ, what was received disagrees with one of them.
+pub disagreements-together : (received : List ℕ) (v w : ℕ) → length received ≡ 162
+    → differences (codedBits v) (codedBits w) ≤ wordDisagreements received v + wordDisagreements received w
+disagreements-together received v w long =
+    let size : length (codedBits v) ≤ length received = omega (arith, length-codedBits v) in
+    omega (
+      arith,
+      triangle (codedBits v) received (codedBits w) size,
+      differences-sym received (codedBits w),
+      word-disagreements received v,
+      word-disagreements received w,
+    )
 
 -- ---- Live prefixes
 

@@ -15,9 +15,8 @@ use Rattle.basics.proofs.Choice.{below-or-not}
 use Rattle.basics.proofs.ListLaws.{getD-tabulate}
 use Rattle.basics.proofs.Tables.{below-at}
 use Rattle.convolution.specs.Code.{clocked, firstMask, secondMask, codedBits}
-use Rattle.convolution.proofs.CodeLaws.{length-codedBits}
 use Rattle.distance.specs.Prefixes.{freeOf, prefixBits, prefixesOf, differences, wordDisagreements, isLive, liveOf, liveCount}
-use Rattle.distance.proofs.Bits.{differences-sym, differences-none, triangle}
+use Rattle.distance.proofs.Bits.{differences-sym, differences-none}
 use Rattle.distance.proofs.PrefixLaws.{word-disagreements, live-within}
 use Rattle.distance.proofs.Recentred.{zeroBits, liveOf-clean, liveCount-clean, liveCount-flipped}
 use Rattle.distance.proofs.Tree.{parity32, stepCost32, step, level, tree, liveOf-level, liveCount-tree}
@@ -76,17 +75,3 @@ six-apart v w h k other =
     below-or-not (differences (codedBits v) (codedBits w)) 6
     (λ near. absurd (other (same-within-five v w h k (omega arith))))
     (λ far. far)
-
--- What disagrees with one word in some places disagrees with any other in the rest of the six or more.
-pub others-further : (received : List ℕ) (v w : ℕ) → length received ≡ 162 → v < 2 ^ 50 → w < 2 ^ 50 → (v ≡ w → ⊥)
-    → 6 ≤ wordDisagreements received v + wordDisagreements received w
-others-further received v w long h k other =
-    let size : length (codedBits v) ≤ length received = omega (arith, length-codedBits v) in
-    omega (
-      arith,
-      six-apart v w h k other,
-      triangle (codedBits v) received (codedBits w) size,
-      differences-sym received (codedBits w),
-      word-disagreements received v,
-      word-disagreements received w,
-    )

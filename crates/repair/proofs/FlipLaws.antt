@@ -1,26 +1,30 @@
--- Flipped data bits: counted in frame order they are the sent word's disagreements in S order; and two of them at most are repaired.
+-- Flipped data bits: counted in frame order they are the sent word's disagreements in S order; the frames of two words differ in six data bits
+-- or more; two flips at most are repaired; and what follows of more flips, over the least number of data bits in which frames differ.
 use mathlib.Core.Path.{_≡_, refl, sym, ap, ap₂, _∙_}
-use Prim.Native.Nat.{ℕ, _-_, _^_, _≤_, _<_}
+use Prim.Native.Nat.{ℕ, _+_, _-_, _^_, _≤_, _<_}
 use native.Mathlib.Omega.{arith}
 use mathlib.Core.Bool.{not}
 use mathlib.Core.List.{List}
 use lib.Dec.{eqb}
 use lib.ListN.{getD}
+use borrow.Author.Tests.{lt-ltb, le-ltb}
 use Rattle.basics.proofs.BelowLaws.{count-same, count-reordered}
+use Rattle.basics.proofs.Choice.{below-or-not, equal-or-not}
 use Rattle.convolution.specs.Code.{codedBits}
 use Rattle.convolution.proofs.CodeLaws.{length-codedBits}
 use Rattle.interleaver.specs.Places.{placeOf, indexAt}
 use Rattle.interleaver.proofs.PlaceLaws.{placeOf-below, indexAt-below, indexAt-placeOf, placeOf-indexAt}
 use Rattle.frame.specs.Symbols.{frameOf, RightSymbols, dataAt, receivedBits}
 use Rattle.frame.proofs.SymbolLaws.{length-receivedBits, getD-receivedBits, received-frameOf}
-use Rattle.distance.specs.Prefixes.{wordDisagreements, liveCount}
+use Rattle.distance.specs.Prefixes.{differences, wordDisagreements, liveCount}
 use Rattle.distance.specs.Nearest.{OnlyNearest, IsMargin}
 use Rattle.distance.proofs.NearestLaws.{margin-to}
 use Rattle.distance.proofs.Bits.{differences-sym, differences-counted}
-use Rattle.distance.proofs.PrefixLaws.{word-disagreements}
-use Rattle.distance.proofs.ZeroWord.{flipped-most, others-further}
+use Rattle.distance.proofs.PrefixLaws.{word-disagreements, disagreements-together}
+use Rattle.distance.proofs.ZeroWord.{flipped-most, six-apart}
 use Rattle.repair.specs.Answer.{nearestWith, frameRepaired}
-use Rattle.repair.specs.Demand.{Bounds, IsNearest, flippedAt, flips, givenBack, TwoFlipsRepaired}
+use Rattle.repair.specs.Demand.{Bounds, IsNearest, NoneWithin}
+use Rattle.repair.specs.Flips.{flippedAt, flips, givenBack, TwoFlipsRepaired, FramesApart, noWord, FlipsRefused, ThreeFlipsRefused, WrongWordFlips}
 use Rattle.repair.specs.declared.RepairAnswer.{RepairAnswer}
 use Rattle.repair.proofs.AnswerLaws.{demanded}
 
@@ -46,45 +50,112 @@ module _ (word : ℕ) (frame : List ℕ) where
       (λ i h. ap₂ (λ (a b : ℕ). not (eqb a b)) (received-there i h) (sent-there i h))
       ∙ count-reordered 162 placeOf indexAt placeOf-below indexAt-placeOf indexAt-below placeOf-indexAt (flippedAt word frame))
 
-  -- ---- Two flips at most
+-- ---- Two words
 
-  module _ (h : word < 2 ^ 50) (few : flips word frame ≤ 2) where
-    live-most : liveCount received 2 ≤ 569
-    live-most = flipped-most received word 2 (length-receivedBits frame) (omega (arith, flips-disagreements))
+-- The data bits in which the frames of two words differ are the coded bits in which the words do.
+flips-frameOf : (v w : ℕ) → flips v (frameOf w) ≡ differences (codedBits v) (codedBits w)
+flips-frameOf v w =
+    flips-disagreements v (frameOf w)
+    ∙ ap (λ (bits : List ℕ). wordDisagreements bits v) (received-frameOf w)
+    ∙ word-disagreements (codedBits w) v
 
-    -- Any other word is six or more from the sent one, so four or more from what was received.
-    others-far : (other : ℕ) → other < 2 ^ 50 → (other ≡ word → ⊥) → 4 ≤ wordDisagreements received other
-    others-far other k different = omega (arith, others-further received other word (length-receivedBits frame) k h different, flips-disagreements)
+pub frames-six-apart : FramesApart 6
+frames-six-apart v w h k other = omega (arith, flips-frameOf v w, six-apart v w h k other)
 
-    others-more : OnlyNearest received word
-    others-more = (h, λ other k different. omega (arith, others-far other k different, flips-disagreements))
+-- Where the frames of two words differ, a received frame differs from one of them.
+flips-together : (v w : ℕ) (frame : List ℕ) → flips v (frameOf w) ≤ flips v frame + flips w frame
+flips-together v w frame =
+    omega (
+      arith,
+      flips-frameOf v w,
+      disagreements-together (receivedBits frame) v w (length-receivedBits frame),
+      flips-disagreements v frame,
+      flips-disagreements w frame,
+    )
 
-    margin-left : IsMargin received 2 word (3 - flips word frame)
-    margin-left =
-        rw flips-disagreements
-        (margin-to received 2 word 3 (omega (arith, flips-disagreements)) (omega arith)
-        (λ other k different. omega (arith, others-far other k different))
-        (λ within. absurd (omega arith)))
+-- ---- Two flips at most
 
-    given-back-is : IsNearest frame 2 (givenBack word frame 2)
-    unfolding givenBack nearestWith
-    given-back-is =
-        record {
-          only-nearest = others-more;
-          its-disagreements = flips-disagreements;
-          within-limit = few;
-          live-count = refl;
-          wrong-sync = refl;
-          its-margin = margin-left;
-        }
+module _ (word : ℕ) (frame : List ℕ) (h : word < 2 ^ 50) (few : flips word frame ≤ 2) where
+  same : flips word frame ≡ wordDisagreements (receivedBits frame) word
+  same = flips-disagreements word frame
 
-    -- A budget from 569 on is enough.
-    sent-repaired : (budget : ℕ) → 569 ≤ budget → budget ≤ 65_536 → RightSymbols frame
-        → frameRepaired frame 2 budget ≡ RepairAnswer.Word (givenBack word frame 2)
-    sent-repaired budget enough most right =
-        let bounds : Bounds 2 budget = record { limit-to-12 = omega arith; budget-from-1 = omega arith; budget-to-65536 = most } in
-        demanded frame 2 budget right bounds .answered (givenBack word frame 2) .1 (omega (arith, live-most), given-back-is)
+  live-most : liveCount (receivedBits frame) 2 ≤ 569
+  live-most = flipped-most (receivedBits frame) word 2 (length-receivedBits frame) (omega (arith, same))
+
+  -- Any other word is six or more from the sent one, so four or more from what was received.
+  others-far : (other : ℕ) → other < 2 ^ 50 → (other ≡ word → ⊥) → 4 ≤ wordDisagreements (receivedBits frame) other
+  others-far other k different =
+      omega (arith, frames-six-apart other word k h different, flips-together other word frame, flips-disagreements other frame)
+
+  others-more : OnlyNearest (receivedBits frame) word
+  others-more = (h, λ other k different. omega (arith, others-far other k different, same))
+
+  margin-left : IsMargin (receivedBits frame) 2 word (3 - flips word frame)
+  margin-left =
+      rw same
+      (margin-to (receivedBits frame) 2 word 3 (omega (arith, same)) (omega arith)
+      (λ other k different. omega (arith, others-far other k different))
+      (λ within. absurd (omega arith)))
+
+  given-back-is : IsNearest frame 2 (givenBack word frame 2)
+  unfolding givenBack nearestWith
+  given-back-is =
+      record {
+        only-nearest = others-more;
+        its-disagreements = same;
+        within-limit = few;
+        live-count = refl;
+        wrong-sync = refl;
+        its-margin = margin-left;
+      }
+
+  -- A budget from 569 on is enough.
+  sent-repaired : (budget : ℕ) → 569 ≤ budget → budget ≤ 65_536 → RightSymbols frame
+      → frameRepaired frame 2 budget ≡ RepairAnswer.Word (givenBack word frame 2)
+  sent-repaired budget enough most right =
+      let bounds : Bounds 2 budget = record { limit-to-12 = omega arith; budget-from-1 = omega arith; budget-to-65536 = most } in
+      demanded frame 2 budget right bounds .answered (givenBack word frame 2) .1 (omega (arith, live-most), given-back-is)
 
 pub two-flips-repaired : (frame : List ℕ) (limit budget : ℕ) → TwoFlipsRepaired frame limit budget (frameRepaired frame limit budget)
 two-flips-repaired frame limit budget two enough right word h few =
     rw (two, enough) (sent-repaired word frame h few 16_000 (omega arith) (omega arith) right)
+
+-- ---- More flips than the limit, and other words
+
+none-refused : (frame : List ℕ) (limit budget : ℕ) → RightSymbols frame → Bounds limit budget → NoneWithin (receivedBits frame) limit
+    → frameRepaired frame limit budget ≡ noWord frame limit budget
+unfolding noWord
+none-refused frame limit budget right bounds none =
+    below-or-not budget (liveCount (receivedBits frame) limit)
+    (λ over. rw (lt-ltb budget (liveCount (receivedBits frame) limit) over) (demanded frame limit budget right bounds .out-of-budget .1 over))
+    (λ within. rw (le-ltb budget (liveCount (receivedBits frame) limit) within) (demanded frame limit budget right bounds .none-within .1 (within, none)))
+
+module _ (least : ℕ) (apart : FramesApart least) (frame : List ℕ) (limit budget : ℕ) where
+  -- The sent word has as many disagreements as there are flips; any other has what these leave of the least distance, or more.
+  pub flips-refused : FlipsRefused least frame limit budget (frameRepaired frame limit budget)
+  flips-refused right bounds word h more fewer =
+      none-refused frame limit budget right bounds
+      (λ other k.
+      equal-or-not other word
+      (λ same. rw same (omega (arith, flips-disagreements word frame)))
+      (λ different. omega (arith, apart other word k h different, flips-together other word frame, flips-disagreements other frame)))
+
+  pub wrong-word-flips : WrongWordFlips least frame limit budget (frameRepaired frame limit budget)
+  wrong-word-flips right bounds nearest e word h different =
+      let (within, is) = demanded frame limit budget right bounds .answered nearest .0 e in
+      let (known, only) = is .only-nearest in
+      let answered = nearest .word in (
+        omega (arith, only word h different, is .its-disagreements, flips-disagreements word frame),
+        omega (
+          arith,
+          apart word answered h known different,
+          flips-together word answered frame,
+          flips-disagreements answered frame,
+          is .its-disagreements,
+        ),
+      )
+
+-- The law's case 6, 3, 2.
+pub three-flips-refused : (frame : List ℕ) (limit budget : ℕ) → ThreeFlipsRefused frame limit budget (frameRepaired frame limit budget)
+three-flips-refused frame limit budget two bounds right word h three =
+    flips-refused 6 frames-six-apart frame limit budget right bounds word h (omega arith) (omega arith)

@@ -3,20 +3,38 @@ use mathlib.Core.Path.{_≡_, refl, subst}
 use Prim.Native.Nat.{ℕ}
 use mathlib.Core.List.{List}
 use Rattle.repair.specs.Answer.{frameRepaired, repairNumbers}
-use Rattle.repair.specs.Demand.{AsChecked, AsDemanded, TwoFlipsRepaired}
+use Rattle.repair.specs.Demand.{AsChecked, AsDemanded}
+use Rattle.repair.specs.Flips.{TwoFlipsRepaired, ThreeFlipsRefused, WrongWordFlips}
 use Rattle.repair.specs.declared.RepairAnswer.{RepairAnswer}
 use Rattle.repair.proofs.AnswerLaws.{demanded}
 use Rattle.repair.proofs.CheckLaws.{checked}
-use Rattle.repair.proofs.FlipLaws.{two-flips-repaired}
+use Rattle.repair.proofs.FlipLaws.{frames-six-apart, two-flips-repaired, three-flips-refused, wrong-word-flips}
 
 abbrev pub RepairPromised : List ℕ → ℕ → ℕ → RepairAnswer → Type 0
 RepairPromised frame limit budget answer =
     (answer ≡ frameRepaired frame limit budget)
     × ((repairNumbers answer ≡ repairNumbers (frameRepaired frame limit budget))
-    × (AsChecked frame limit budget answer × (AsDemanded frame limit budget answer × TwoFlipsRepaired frame limit budget answer)))
+    × (AsChecked frame limit budget answer
+    × (AsDemanded frame limit budget answer
+    × (TwoFlipsRepaired frame limit budget answer × (ThreeFlipsRefused frame limit budget answer × WrongWordFlips 6 frame limit budget answer)))))
 
 pub promised : (frame : List ℕ) (limit budget : ℕ) (answer : RepairAnswer) → frameRepaired frame limit budget ≡ answer → RepairPromised frame limit budget answer
 promised frame limit budget answer e = subst (RepairPromised frame limit budget) e of-defined
   where
     of-defined : RepairPromised frame limit budget (frameRepaired frame limit budget)
-    of-defined = (refl, (refl, (checked frame limit budget, (demanded frame limit budget, two-flips-repaired frame limit budget))))
+    of-defined = (
+      refl,
+      (
+        refl,
+        (
+          checked frame limit budget,
+          (
+            demanded frame limit budget,
+            (
+              two-flips-repaired frame limit budget,
+              (three-flips-refused frame limit budget, wrong-word-flips 6 frames-six-apart frame limit budget),
+            ),
+          ),
+        ),
+      ),
+    )

@@ -1,18 +1,14 @@
 -- What is asked of an answer: what is refused before a search; and demand 3: when the answer is "out of budget", when it is a word and
--- which, with which margin, and that two flipped data bits at most are repaired.
+-- which, with which margin. What is asked of flipped data bits is in Flips.antt.
 use mathlib.Core.Path.{_≡_}
 use mathlib.Core.Logic.{_↔_, _⊎_}
-use Prim.Native.Nat.{ℕ, _+_, _-_, _^_, _≤_, _<_}
-use mathlib.Core.Bool.{Bool, not}
+use Prim.Native.Nat.{ℕ, _^_, _≤_, _<_}
 use mathlib.Core.List.{List}
-use lib.Dec.{eqb}
 use lib.ListN.{length, getD}
-use Rattle.basics.specs.Below.{countBelow}
 use Rattle.refusal.specs.Refusals.{refusal, wrongLength, symbolTooLarge, badBound, overBudget, noneWithinLimit, sharedFewest}
-use Rattle.frame.specs.Symbols.{frameOf, RightSymbols, dataAt, receivedBits, wrongSyncIn}
+use Rattle.frame.specs.Symbols.{RightSymbols, receivedBits, wrongSyncIn}
 use Rattle.distance.specs.Prefixes.{wordDisagreements, liveCount}
 use Rattle.distance.specs.Nearest.{AtMostAll, OnlyNearest, IsMargin}
-use Rattle.repair.specs.Answer.{nearestWith}
 use Rattle.repair.specs.declared.Nearest.{Nearest}
 use Rattle.repair.specs.declared.RepairAnswer.{RepairAnswer}
 
@@ -84,25 +80,3 @@ pub record Demanded (frame : List ℕ) (limit budget : ℕ) (answer : RepairAnsw
 -- "Repair takes any 162 symbols of 0 to 3, a limit .. and a budget .. Whichever these are, ..": what is demanded of its answer.
 abbrev pub AsDemanded : List ℕ → ℕ → ℕ → RepairAnswer → Type 0
 AsDemanded frame limit budget answer = RightSymbols frame → Bounds limit budget → Demanded frame limit budget answer
-
--- ---- Flipped data bits
-
--- "A data bit is flipped where the received one differs from that of the sent word's frame."
-abbrev pub flippedAt : ℕ → List ℕ → ℕ → Bool
-flippedAt word frame place = not (eqb (dataAt frame place) (dataAt (frameOf word) place))
-
--- How many are.
-unfoldable pub flips : ℕ → List ℕ → ℕ
-flips word frame = countBelow 162 (flippedAt word frame)
-
--- The sent word, "with the number of flipped bits as its disagreements", and what else the answer holds. At limit 2 and with two flips at
--- most no other word is within the limit, so that the next "is taken as limit + 1".
-unfoldable pub givenBack : ℕ → List ℕ → ℕ → Nearest
-givenBack word frame limit = nearestWith frame limit word (flips word frame) (limit + 1 - flips word frame)
-
--- "Whichever 50-bit word was sent, whichever of its frame's 162 data bits were flipped, two at most, and whatever became of the sync
--- bits, limit 2 with a budget of 16,000 gives that word back, with the number of flipped bits as its disagreements."
-abbrev pub TwoFlipsRepaired : List ℕ → ℕ → ℕ → RepairAnswer → Type 0
-TwoFlipsRepaired frame limit budget answer =
-    limit ≡ 2 → budget ≡ 16_000 → RightSymbols frame → (word : ℕ) → word < 2 ^ 50 → flips word frame ≤ 2
-    → answer ≡ RepairAnswer.Word (givenBack word frame 2)

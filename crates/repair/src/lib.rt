@@ -7,7 +7,8 @@ mod search;
 
 ghost use mathlib.Core.Path.{_≡_};
 ghost use Rattle.repair.specs.Answer.{firstBadBound, frameRepaired, repairNumbers};
-ghost use Rattle.repair.specs.Demand.{AsChecked, AsDemanded, TwoFlipsRepaired};
+ghost use Rattle.repair.specs.Demand.{AsChecked, AsDemanded};
+ghost use Rattle.repair.specs.Flips.{TwoFlipsRepaired, ThreeFlipsRefused, WrongWordFlips};
 ghost use Rattle.repair.specs.Search.{answerOf};
 use refusal::BAD_BOUND;
 use refusal::NONE_WITHIN_LIMIT;
@@ -89,6 +90,8 @@ pub fn repair(frame: &[u8], limit: u32, budget: u32) -> RepairAnswer
     ensures checked { λ r. ⌜ AsChecked (now (frame .entry)) limit budget r ⌝ }
     ensures demanded { λ r. ⌜ AsDemanded (now (frame .entry)) limit budget r ⌝ }
     ensures two_flips { λ r. ⌜ TwoFlipsRepaired (now (frame .entry)) limit budget r ⌝ }
+    ensures three_flips { λ r. ⌜ ThreeFlipsRefused (now (frame .entry)) limit budget r ⌝ }
+    ensures wrong_word { λ r. ⌜ WrongWordFlips 6 (now (frame .entry)) limit budget r ⌝ }
 {
     if frame.len() != 162 {
         return RepairAnswer::Refused(Refusal {

@@ -7,7 +7,8 @@ ghost use Rattle.message.specs.RoundTrip.{UnpacksBack, PacksBack, WrittenInCapi
 ghost use Rattle.frame.specs.Answer.{writeNumbers, wordWritten, messageWritten, frameAfterWord, frameAfterMessage, wordRead, messageRead, callsignAfterRead, locatorAfterRead};
 ghost use Rattle.frame.specs.RoundTrip.{WordReadsBack, WordWritesBack, WordRefusedExactly, NoWordRefused, MessageReadsBack, MessageWritesBack, MessageRefusedExactly};
 ghost use Rattle.repair.specs.Answer.{frameRepaired, repairNumbers};
-ghost use Rattle.repair.specs.Demand.{AsChecked, AsDemanded, TwoFlipsRepaired};
+ghost use Rattle.repair.specs.Demand.{AsChecked, AsDemanded};
+ghost use Rattle.repair.specs.Flips.{TwoFlipsRepaired, ThreeFlipsRefused, WrongWordFlips};
 ghost use Rattle.telemetry.specs.Answer.{telemetryWritten, telemetryRead, telemetryNumbers, callsignAfterTelemetry, locatorAfterTelemetry};
 ghost use Rattle.telemetry.specs.RoundTrip.{TelemetryReadsBack, TelemetryWithinSteps, TelemetryWritesBack, TelemetryRefusedExactly};
 ghost use Rattle.wsprcard.specs.Results.{writtenResult, wordResult, messageResult, repairedResult, readingResult, writeAnswerIn, wordAnswerIn, messageAnswerIn, repairAnswerIn, telemetryAnswerIn, measuredFrom};
@@ -259,6 +260,8 @@ pub extern "C" fn wspr_repair(frame: &[u8], limit: u32, budget: u32) -> WsprRepa
     ensures checked { λ r. ⌜ AsChecked (now (frame .entry)) limit budget (repairAnswerIn r) ⌝ }
     ensures demanded { λ r. ⌜ AsDemanded (now (frame .entry)) limit budget (repairAnswerIn r) ⌝ }
     ensures two_flips { λ r. ⌜ TwoFlipsRepaired (now (frame .entry)) limit budget (repairAnswerIn r) ⌝ }
+    ensures three_flips { λ r. ⌜ ThreeFlipsRefused (now (frame .entry)) limit budget (repairAnswerIn r) ⌝ }
+    ensures wrong_word { λ r. ⌜ WrongWordFlips 6 (now (frame .entry)) limit budget (repairAnswerIn r) ⌝ }
 {
     repaired_result(repair::repair(frame, limit, budget))
 }

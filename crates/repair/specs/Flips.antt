@@ -1,0 +1,73 @@
+-- Flipped data bits: how many there are; that two at most are repaired (demand 3); that three at limit 2 give no word (02, L14), with the
+-- law behind it; and how many a word other than the sent one takes.
+use mathlib.Core.Path.{_≡_}
+use Prim.Native.Nat.{ℕ, _+_, _-_, _^_, _≤_, _<_}
+use mathlib.Core.Bool.{Bool, not, cond}
+use mathlib.Core.List.{List}
+use lib.Dec.{eqb, ltb}
+use Rattle.basics.specs.Below.{countBelow}
+use Rattle.refusal.specs.Refusals.{refusal, overBudget, noneWithinLimit}
+use Rattle.frame.specs.Symbols.{frameOf, RightSymbols, dataAt, receivedBits}
+use Rattle.distance.specs.Prefixes.{liveCount}
+use Rattle.repair.specs.Answer.{nearestWith}
+use Rattle.repair.specs.Demand.{Bounds}
+use Rattle.repair.specs.declared.Nearest.{Nearest}
+use Rattle.repair.specs.declared.RepairAnswer.{RepairAnswer}
+
+-- "A data bit is flipped where the received one differs from that of the sent word's frame."
+abbrev pub flippedAt : ℕ → List ℕ → ℕ → Bool
+flippedAt word frame place = not (eqb (dataAt frame place) (dataAt (frameOf word) place))
+
+-- How many are.
+unfoldable pub flips : ℕ → List ℕ → ℕ
+flips word frame = countBelow 162 (flippedAt word frame)
+
+-- ---- Two at most
+
+-- The sent word, "with the number of flipped bits as its disagreements", and what else the answer holds. At limit 2 and with two flips at
+-- most no other word is within the limit, so that the next "is taken as limit + 1".
+unfoldable pub givenBack : ℕ → List ℕ → ℕ → Nearest
+givenBack word frame limit = nearestWith frame limit word (flips word frame) (limit + 1 - flips word frame)
+
+-- "Whichever 50-bit word was sent, whichever of its frame's 162 data bits were flipped, two at most, and whatever became of the sync
+-- bits, limit 2 with a budget of 16,000 gives that word back, with the number of flipped bits as its disagreements."
+abbrev pub TwoFlipsRepaired : List ℕ → ℕ → ℕ → RepairAnswer → Type 0
+TwoFlipsRepaired frame limit budget answer =
+    limit ≡ 2 → budget ≡ 16_000 → RightSymbols frame → (word : ℕ) → word < 2 ^ 50 → flips word frame ≤ 2
+    → answer ≡ RepairAnswer.Word (givenBack word frame 2)
+
+-- ---- More than the limit
+
+-- "two different words always differ in at least six data bits of their frames" (02, L14), and so for any number: so many are flipped at
+-- least where one word is sent and the frame of another is received.
+abbrev pub FramesApart : ℕ → Type 0
+FramesApart least = (sent other : ℕ) → sent < 2 ^ 50 → other < 2 ^ 50 → (sent ≡ other → ⊥) → least ≤ flips sent (frameOf other)
+
+-- "never turned into any word: it is refused 17, or 16 where the live count is above the budget."
+unfoldable pub noWord : List ℕ → ℕ → ℕ → RepairAnswer
+noWord frame limit budget =
+    cond (ltb budget (liveCount (receivedBits frame) limit)) (RepairAnswer.Refused (refusal overBudget 0))
+    (RepairAnswer.Refused (refusal noneWithinLimit 0))
+
+-- The law behind it, over the least number of data bits in which frames differ: more flips than the limit, together with it fewer than that
+-- number, give no word.
+abbrev pub FlipsRefused : ℕ → List ℕ → ℕ → ℕ → RepairAnswer → Type 0
+FlipsRefused least frame limit budget answer =
+    RightSymbols frame → Bounds limit budget → (word : ℕ) → word < 2 ^ 50 → limit < flips word frame → flips word frame + limit < least
+    → answer ≡ noWord frame limit budget
+
+-- "a frame with exactly three flipped data bits, at limit 2 and a legal budget, is never turned into any word": whichever word was sent, and
+-- whatever became of the sync bits.
+abbrev pub ThreeFlipsRefused : List ℕ → ℕ → ℕ → RepairAnswer → Type 0
+ThreeFlipsRefused frame limit budget answer =
+    limit ≡ 2 → Bounds limit budget → RightSymbols frame → (word : ℕ) → word < 2 ^ 50 → flips word frame ≡ 3 → answer ≡ noWord frame limit budget
+
+-- ---- A word other than the sent one
+
+-- It is answered, at any limit and budget, only where more data bits were flipped than it has disagreements, and both together are so many at
+-- least. With six that is at least four flips; and as disagreements are at most the limit, at limit 1 five and at limit 0 six.
+abbrev pub WrongWordFlips : ℕ → List ℕ → ℕ → ℕ → RepairAnswer → Type 0
+WrongWordFlips least frame limit budget answer =
+    RightSymbols frame → Bounds limit budget → (nearest : Nearest) → answer ≡ RepairAnswer.Word nearest
+    → (word : ℕ) → word < 2 ^ 50 → (word ≡ nearest .word → ⊥)
+    → (nearest .disagreements < flips word frame) × (least ≤ flips word frame + nearest .disagreements)
