@@ -275,7 +275,7 @@ fn every_three_flips_give_no_word_at_limit_2() {
             }
         }
     }
-    check.finish(&[("repair", 16, 500_000), ("repair", 17, 1_500_000)]);
+    check.finish(&[("repair", 16, 300_000), ("repair", 17, 2_000_000)]);
 }
 
 /// The same of many words, with the live count and so 16 or 17 told beforehand.
