@@ -58,9 +58,9 @@ static const struct {
     "and at limits 10 to 12 with none. So use limits up to 9. A frame with flipped\n" \
     "data bits can have a lower or a higher live count.\n" \
     "\n" \
-    "At limit 2 and budget 16000 a word comes back where two data bits of its frame at\n" \
-    "most were flipped, and no word is given where three were (17). A word that isn't\n" \
-    "the one that was sent takes at least four flipped data bits, whatever the limit.\n"
+    "At limit 2 and budget 16000 a word comes back where at most two data bits of its\n" \
+    "frame were flipped, and no word is given where three were (17). A word that isn't\n" \
+    "the one that was sent takes at least four flipped data bits, at any limit.\n"
 #define REPORT_HELP \
     "A report is channel, sub-square, metres, degrees, millivolts, knots and GPS,\n" \
     "as Q2 SK 12340 -15 4100 30 1. Its letters are capitals, and tabs may stand between\n" \

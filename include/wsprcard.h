@@ -156,10 +156,10 @@ wspr_message wspr_read_message(const uint8_t *frame, size_t frame_len, uint8_t *
  * Refusals 1, 15, 7, 16, 17, 18, in that order. Sync bits never refuse a repair: the wrong ones are counted. Whichever
  * word was sent, and whichever of its frame's data bits were flipped, two at most, limit 2 and budget 16,000 give it
  * back, with the number of flipped bits as its disagreements and 3 less that number as its margin. With exactly three
- * flipped, limit 2 gives no word: 17, or 16 where the live count is above the budget. At any limit and budget a word
- * other than the sent one takes more flipped bits than it has disagreements, and six or more of both together: at least
- * four, at limit 1 five and at limit 0 six. A repaired word need not be a message's: wspr_unpack turns it into its
- * message, or refuses. */
+ * flipped, limit 2 and a budget of 1 to 65,536 give no word: 17, or 16 where the live count is above the budget. At any
+ * limit and budget a word other than the sent one takes more flipped bits than it has disagreements, and six or more of
+ * both together: at least four, at limit 1 five and at limit 0 six. A repaired word need not be a message's:
+ * wspr_unpack turns it into its message, or refuses. */
 wspr_repaired wspr_repair(const uint8_t *frame, size_t frame_len, uint32_t limit, uint32_t budget);
 
 /* The message of a telemetry report: writes its callsign and locator, returns its power. Each reading is rounded down

@@ -477,14 +477,18 @@ static void hold_sent_word(const struct frame_input *f, uint32_t limit, uint32_t
         hold(r.refusal == 0 && r.word == f->word && r.disagreements == f->flips, "two flipped data bits are repaired");
         hold(r.margin == 3 - f->flips, "at limit 2 the margin is 3 less the number of flipped data bits");
     }
-    if (f->flips == 3 && limit == 2 && budget >= 1 && budget <= 65536)
-        hold(r.refusal == 16 || r.refusal == 17, "at limit 2 three flipped data bits give no word");
+    if (f->flips == 3 && limit == 2 && budget >= 1 && budget <= 65536) {
+        hold(r.refusal == 17 || r.refusal == 16, "at limit 2 three flipped data bits give no word");
+        hold(r.refusal == 17 || budget < 16000, "their live count is below 16,000");
+    }
     if (f->flips <= limit)
         hold(r.refusal != 17, "a word within the limit isn't refused 17");
-    if (r.refusal == 0 && r.word != f->word)
-        hold(f->flips + r.disagreements >= 6, "another word takes six flipped data bits less its disagreements");
     if (r.refusal == 0)
         hold(r.disagreements <= f->flips, "the nearest word is as near as the one that was sent");
+    if (r.refusal == 0 && r.word != f->word) {
+        hold(r.disagreements < f->flips, "another word is nearer than the one that was sent");
+        hold(f->flips + r.disagreements >= 6, "another word takes six flipped data bits less its disagreements");
+    }
 }
 
 static void hold_repair_refusal(const struct lent *frame, uint32_t limit, uint32_t budget, wspr_repaired r)

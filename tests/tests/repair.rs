@@ -980,7 +980,7 @@ fn least_distance(code: &Code) -> u32 {
 
 /// Every pattern of the tiny code, and random ones of others, with any word taken for the sent one.
 #[test]
-fn below_the_least_distance_flips_give_no_other_word() {
+fn flips_and_limit_below_the_least_distance_give_no_word() {
     let mut counts = Counts::new();
     let mut rng = Rng::new(33);
     let mut patterns: Vec<(Code, Vec<u8>)> = tiny_patterns().map(|bits| (TINY, bits)).collect();

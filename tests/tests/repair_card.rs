@@ -64,7 +64,8 @@ impl Check {
     }
 
     /// Flips these three data bits of a word's frame and any number of its sync bits; limit 2 has
-    /// to give no word, whatever the budget.
+    /// to give no word, whatever the budget. What is live is within five of the sent word, so that
+    /// a budget of a clean frame's live count at limit 5 is never passed.
     fn give_none(&mut self, frame: &Frame, flips: &[usize; 3]) {
         let mut frame = flipped(*frame, flips);
         let spoiled = self.rng.below(FRAME_LEN as u64 + 1) as usize;
@@ -72,7 +73,8 @@ impl Check {
         let few = self.rng.between(1, 200) as u32;
         let budget = self.rng.pick(&[few, 16_000, LARGEST_BUDGET]);
         let found = self.repair(&frame, 2, budget);
-        assert!([refused(16, 0), refused(17, 0)].contains(&found), "{flips:?} {budget} {found:?}");
+        let passed = found == refused(16, 0) && u64::from(budget) < CLEAN[5];
+        assert!(passed || found == refused(17, 0), "{flips:?} {budget} {found:?}");
     }
 
     fn finish(self, at_least: &[(&'static str, u32, u64)]) {
@@ -261,7 +263,7 @@ fn sync_bits_are_counted_and_never_refuse() {
 
 // More flips
 
-/// Every way of flipping three data bits of some words' frames, with budgets around the live counts.
+/// Every way of flipping three data bits of some words' frames.
 #[test]
 fn every_three_flips_give_no_word_at_limit_2() {
     let mut check = Check::new(25);
@@ -291,6 +293,7 @@ fn three_flips_of_any_word_give_no_word_at_limit_2() {
         let spoiled = check.rng.below(FRAME_LEN as u64 + 1) as usize;
         spoil_sync(&mut check.rng, &mut frame, spoiled);
         let live = live_count(&frame, 2) as u32;
+        assert!(u64::from(live) <= CLEAN[5], "{word:#x} {places:?}: {live}");
         for budget in [1, live.max(2) - 1, live.max(1), 16_000, LARGEST_BUDGET] {
             let expected = answer_by_live(u64::from(live), budget, 2, (word, 3));
             assert_eq!(check.repair(&frame, 2, budget), expected, "{word:#x} {places:?} {budget}");

@@ -24,7 +24,7 @@ use Rattle.distance.proofs.PrefixLaws.{word-disagreements, disagreements-togeth
 use Rattle.distance.proofs.ZeroWord.{flipped-most, six-apart}
 use Rattle.repair.specs.Answer.{nearestWith, frameRepaired}
 use Rattle.repair.specs.Demand.{Bounds, IsNearest, NoneWithin}
-use Rattle.repair.specs.Flips.{flippedAt, flips, givenBack, TwoFlipsRepaired, FramesApart, noWord, FlipsRefused, ThreeFlipsRefused, WrongWordFlips}
+use Rattle.repair.specs.Flips.{flippedAt, flips, givenBack, TwoFlipsRepaired, FramesApart, noWord, FlipsLaw, ThreeFlipsRefused, WrongWordFlips}
 use Rattle.repair.specs.declared.RepairAnswer.{RepairAnswer}
 use Rattle.repair.proofs.AnswerLaws.{demanded}
 
@@ -122,24 +122,33 @@ two-flips-repaired frame limit budget two enough right word h few =
 
 -- ---- More flips than the limit, and other words
 
-none-refused : (frame : List ℕ) (limit budget : ℕ) → RightSymbols frame → Bounds limit budget → NoneWithin (receivedBits frame) limit
-    → frameRepaired frame limit budget ≡ noWord frame limit budget
-unfolding noWord
-none-refused frame limit budget right bounds none =
-    below-or-not budget (liveCount (receivedBits frame) limit)
-    (λ over. rw (lt-ltb budget (liveCount (receivedBits frame) limit) over) (demanded frame limit budget right bounds .out-of-budget .1 over))
-    (λ within. rw (le-ltb budget (liveCount (receivedBits frame) limit) within) (demanded frame limit budget right bounds .none-within .1 (within, none)))
+module _ (frame : List ℕ) (limit budget : ℕ) (right : RightSymbols frame) (bounds : Bounds limit budget) where
+  abbrev live : ℕ
+  live = liveCount (receivedBits frame) limit
+
+  none-refused : NoneWithin (receivedBits frame) limit → frameRepaired frame limit budget ≡ noWord frame limit budget
+  unfolding noWord
+  none-refused none =
+      let told = demanded frame limit budget right bounds in
+      below-or-not budget live
+      (λ over. rw (lt-ltb budget live over) (told .out-of-budget .1 over))
+      (λ within. rw (le-ltb budget live within) (told .none-within .1 (within, none)))
+
+-- The sent word has as many disagreements as there are flips; any other has what these leave of the least distance, or more.
+pub flips-refused : FlipsLaw
+flips-refused least apart frame limit budget right bounds word h more fewer =
+    none-refused frame limit budget right bounds
+    (λ other k.
+    equal-or-not other word
+    (λ same. rw same (omega (arith, flips-disagreements word frame)))
+    (λ different. omega (arith, apart other word k h different, flips-together other word frame, flips-disagreements other frame)))
+
+-- The law's case 6, 3, 2.
+pub three-flips-refused : (frame : List ℕ) (limit budget : ℕ) → ThreeFlipsRefused frame limit budget (frameRepaired frame limit budget)
+three-flips-refused frame limit budget two bounds right word h three =
+    flips-refused 6 frames-six-apart frame limit budget right bounds word h (omega arith) (omega arith)
 
 module _ (least : ℕ) (apart : FramesApart least) (frame : List ℕ) (limit budget : ℕ) where
-  -- The sent word has as many disagreements as there are flips; any other has what these leave of the least distance, or more.
-  pub flips-refused : FlipsRefused least frame limit budget (frameRepaired frame limit budget)
-  flips-refused right bounds word h more fewer =
-      none-refused frame limit budget right bounds
-      (λ other k.
-      equal-or-not other word
-      (λ same. rw same (omega (arith, flips-disagreements word frame)))
-      (λ different. omega (arith, apart other word k h different, flips-together other word frame, flips-disagreements other frame)))
-
   pub wrong-word-flips : WrongWordFlips least frame limit budget (frameRepaired frame limit budget)
   wrong-word-flips right bounds nearest e word h different =
       let (within, is) = demanded frame limit budget right bounds .answered nearest .0 e in
@@ -154,8 +163,3 @@ module _ (least : ℕ) (apart : FramesApart least) (frame : List ℕ) (limit bud
           is .its-disagreements,
         ),
       )
-
--- The law's case 6, 3, 2.
-pub three-flips-refused : (frame : List ℕ) (limit budget : ℕ) → ThreeFlipsRefused frame limit budget (frameRepaired frame limit budget)
-three-flips-refused frame limit budget two bounds right word h three =
-    flips-refused 6 frames-six-apart frame limit budget right bounds word h (omega arith) (omega arith)

@@ -9,7 +9,7 @@ use Rattle.basics.specs.Below.{countBelow}
 use Rattle.refusal.specs.Refusals.{refusal, overBudget, noneWithinLimit}
 use Rattle.frame.specs.Symbols.{frameOf, RightSymbols, dataAt, receivedBits}
 use Rattle.distance.specs.Prefixes.{liveCount}
-use Rattle.repair.specs.Answer.{nearestWith}
+use Rattle.repair.specs.Answer.{nearestWith, frameRepaired}
 use Rattle.repair.specs.Demand.{Bounds}
 use Rattle.repair.specs.declared.Nearest.{Nearest}
 use Rattle.repair.specs.declared.RepairAnswer.{RepairAnswer}
@@ -38,8 +38,9 @@ TwoFlipsRepaired frame limit budget answer =
 
 -- ---- More than the limit
 
--- "two different words always differ in at least six data bits of their frames" (02, L14), and so for any number: so many are flipped at
--- least where one word is sent and the frame of another is received.
+-- "two different words always differ in at least six data bits of their frames" (02, L14), here with any number in place of six: so many are
+-- flipped at least where one word is sent and the frame of another is received. Of six it is proved: `frames-six-apart` of
+-- proofs/FlipLaws.antt.
 abbrev pub FramesApart : ℕ → Type 0
 FramesApart least = (sent other : ℕ) → sent < 2 ^ 50 → other < 2 ^ 50 → (sent ≡ other → ⊥) → least ≤ flips sent (frameOf other)
 
@@ -49,12 +50,16 @@ noWord frame limit budget =
     cond (ltb budget (liveCount (receivedBits frame) limit)) (RepairAnswer.Refused (refusal overBudget 0))
     (RepairAnswer.Refused (refusal noneWithinLimit 0))
 
--- The law behind it, over the least number of data bits in which frames differ: more flips than the limit, together with it fewer than that
--- number, give no word.
+-- More flips than the limit, together with it fewer than a number, give no word.
 abbrev pub FlipsRefused : ℕ → List ℕ → ℕ → ℕ → RepairAnswer → Type 0
 FlipsRefused least frame limit budget answer =
     RightSymbols frame → Bounds limit budget → (word : ℕ) → word < 2 ^ 50 → limit < flips word frame → flips word frame + limit < least
     → answer ≡ noWord frame limit budget
+
+-- The law behind the sentence: so it is for any number of data bits in which frames differ at least.
+abbrev pub FlipsLaw : Type 0
+FlipsLaw =
+    (least : ℕ) → FramesApart least → (frame : List ℕ) (limit budget : ℕ) → FlipsRefused least frame limit budget (frameRepaired frame limit budget)
 
 -- "a frame with exactly three flipped data bits, at limit 2 and a legal budget, is never turned into any word": whichever word was sent, and
 -- whatever became of the sync bits.
@@ -64,8 +69,9 @@ ThreeFlipsRefused frame limit budget answer =
 
 -- ---- A word other than the sent one
 
--- It is answered, at any limit and budget, only where more data bits were flipped than it has disagreements, and both together are so many at
--- least. With six that is at least four flips; and as disagreements are at most the limit, at limit 1 five and at limit 0 six.
+-- It is answered, at any limit and budget, only where more data bits were flipped than it has disagreements, and both together are at least
+-- as many as frames differ in. With six that is at least four flips; and as disagreements are at most the limit, at limit 1 five and at
+-- limit 0 six.
 abbrev pub WrongWordFlips : ℕ → List ℕ → ℕ → ℕ → RepairAnswer → Type 0
 WrongWordFlips least frame limit budget answer =
     RightSymbols frame → Bounds limit budget → (nearest : Nearest) → answer ≡ RepairAnswer.Word nearest
