@@ -191,6 +191,19 @@ static void draw_noise(struct generator *g, uint8_t *frame)
         frame[i] = (uint8_t)((draw(g) & (kept & 1 ? 0xff : 0)) + added) & mask;
 }
 
+/* Takes another word for the one that was sent, with a frame as near to this word's as there is: it differs in 28 data
+ * bits. So the nearest word is one that wasn't sent, and most of what differs was turned over. */
+static void take_for_another(struct generator *g, struct frame_input *f)
+{
+    uint8_t own[FRAME_LEN];
+
+    f->word ^= UINT64_C(0x546c3) << draw_below(g, 32);
+    wspr_write_word(f->word, own, FRAME_LEN);
+    f->flips = 0;
+    for (size_t i = 0; i < FRAME_LEN; i++)
+        f->flips += (own[i] ^ f->symbols.bytes[i]) >> 1;
+}
+
 /* The frame of a word, whole or with more or fewer of its bits turned over. */
 static void draw_damaged(struct generator *g, struct frame_input *f)
 {
@@ -200,6 +213,8 @@ static void draw_damaged(struct generator *g, struct frame_input *f)
     wspr_write_word(f->word, f->symbols.bytes, FRAME_LEN);
     turn_over(g, f->symbols.bytes, 2, f->flips);
     turn_over(g, f->symbols.bytes, 1, f->sync_wrong);
+    if (draw_once_in(g, 8))
+        take_for_another(g, f);
 }
 
 /* A symbol above 3. */

@@ -24,7 +24,7 @@ use Rattle.distance.proofs.PrefixLaws.{word-disagreements, disagreements-togeth
 use Rattle.distance.proofs.ZeroWord.{flipped-most, six-apart}
 use Rattle.repair.specs.Answer.{nearestWith, frameRepaired}
 use Rattle.repair.specs.Demand.{Bounds, IsNearest, NoneWithin}
-use Rattle.repair.specs.Flips.{flippedAt, flips, givenBack, TwoFlipsRepaired, FramesApart, noWord, FlipsLaw, ThreeFlipsRefused, WrongWordFlips}
+use Rattle.repair.specs.Flips.{flippedAt, flips, givenBack, TwoFlipsRepaired, FramesApart, noWordGiven, FlipsLaw, ThreeFlipsRefused, WrongWordFlips}
 use Rattle.repair.specs.declared.RepairAnswer.{RepairAnswer}
 use Rattle.repair.proofs.AnswerLaws.{demanded}
 
@@ -126,8 +126,8 @@ module _ (frame : List ℕ) (limit budget : ℕ) (right : RightSymbols frame) (b
   abbrev live : ℕ
   live = liveCount (receivedBits frame) limit
 
-  none-refused : NoneWithin (receivedBits frame) limit → frameRepaired frame limit budget ≡ noWord frame limit budget
-  unfolding noWord
+  none-refused : NoneWithin (receivedBits frame) limit → frameRepaired frame limit budget ≡ noWordGiven frame limit budget
+  unfolding noWordGiven
   none-refused none =
       let told = demanded frame limit budget right bounds in
       below-or-not budget live
@@ -153,10 +153,13 @@ module _ (least : ℕ) (apart : FramesApart least) (frame : List ℕ) (limit bud
   wrong-word-flips right bounds nearest e word h different =
       let (within, is) = demanded frame limit budget right bounds .answered nearest .0 e in
       let (known, only) = is .only-nearest in
-      let answered = nearest .word in (
-        omega (arith, only word h different, is .its-disagreements, flips-disagreements word frame),
+      let answered = nearest .word in
+      let nearer : nearest .disagreements < flips word frame =
+      omega (arith, only word h different, is .its-disagreements, flips-disagreements word frame) in (
+        nearer,
         omega (
           arith,
+          nearer,
           apart word answered h known different,
           flips-together word answered frame,
           flips-disagreements answered frame,

@@ -45,8 +45,8 @@ abbrev pub FramesApart : ℕ → Type 0
 FramesApart least = (sent other : ℕ) → sent < 2 ^ 50 → other < 2 ^ 50 → (sent ≡ other → ⊥) → least ≤ flips sent (frameOf other)
 
 -- "never turned into any word: it is refused 17, or 16 where the live count is above the budget."
-unfoldable pub noWord : List ℕ → ℕ → ℕ → RepairAnswer
-noWord frame limit budget =
+unfoldable pub noWordGiven : List ℕ → ℕ → ℕ → RepairAnswer
+noWordGiven frame limit budget =
     cond (ltb budget (liveCount (receivedBits frame) limit)) (RepairAnswer.Refused (refusal overBudget 0))
     (RepairAnswer.Refused (refusal noneWithinLimit 0))
 
@@ -54,7 +54,7 @@ noWord frame limit budget =
 abbrev pub FlipsRefused : ℕ → List ℕ → ℕ → ℕ → RepairAnswer → Type 0
 FlipsRefused least frame limit budget answer =
     RightSymbols frame → Bounds limit budget → (word : ℕ) → word < 2 ^ 50 → limit < flips word frame → flips word frame + limit < least
-    → answer ≡ noWord frame limit budget
+    → answer ≡ noWordGiven frame limit budget
 
 -- The law behind the sentence: so it is for any number of data bits in which frames differ at least.
 abbrev pub FlipsLaw : Type 0
@@ -65,7 +65,8 @@ FlipsLaw =
 -- whatever became of the sync bits.
 abbrev pub ThreeFlipsRefused : List ℕ → ℕ → ℕ → RepairAnswer → Type 0
 ThreeFlipsRefused frame limit budget answer =
-    limit ≡ 2 → Bounds limit budget → RightSymbols frame → (word : ℕ) → word < 2 ^ 50 → flips word frame ≡ 3 → answer ≡ noWord frame limit budget
+    limit ≡ 2 → Bounds limit budget → RightSymbols frame → (word : ℕ) → word < 2 ^ 50 → flips word frame ≡ 3
+    → answer ≡ noWordGiven frame limit budget
 
 -- ---- A word other than the sent one
 
