@@ -29,6 +29,7 @@ static const struct measured {
     {"read a frame to its message", &read_message, draw_frame_of_message, 0, 1, 0, INPUTS, 2},
     {"read a frame to its word", &read_word, draw_frame_of_word, 0, 1, 0, INPUTS, 2},
     {"repair, clean, limit 2", &repair, draw_frame_of_word, 2, 16000, 0, INPUTS, 1},
+    {"repair, worst flip, limit 2", &repair, draw_worst_flip, 2, 16000, 0, INPUTS, 1},
     {"repair, two flips, limit 2", &repair, draw_two_flips, 2, 16000, 0, INPUTS, 1},
     {"repair, clean, limit 8", &repair, draw_frame_of_word, 8, 65536, 0, 32, 1},
     {"repair, noise, limit 11", &repair, draw_noise, 11, 65536, 17, 32, 1},
@@ -134,7 +135,26 @@ static double median_ratio(const double *card, const double *by_hand, size_t rou
     return sort_to_median(ratios, rounds);
 }
 
-static void print_row(const struct measured *c, double times[CALLS][MOST_TIMES], size_t rounds)
+/* The mean live count of the inputs of a repair that answers them all. */
+static double mean_live(const struct measured *c, const inputs *in)
+{
+    double live = 0;
+
+    for (size_t i = 0; i < c->count; i++)
+        live += answer_of(c->layer, 0, in, i).result.repaired.live;
+    return live / (double)c->count;
+}
+
+/* Of a repair that answers: the live count, and the card's time for each of these prefixes. */
+static void print_live(const struct measured *c, const inputs *in, const double *card, size_t rounds)
+{
+    double sorted[MOST_TIMES], live = mean_live(c, in);
+
+    memcpy(sorted, card, rounds * sizeof *card);
+    printf(" %6.0f %5.2f", live, sort_to_median(sorted, rounds) / live);
+}
+
+static void print_row(const struct measured *c, const inputs *in, double times[CALLS][MOST_TIMES], size_t rounds)
 {
     printf("%-30s %6zu", c->what, c->count * c->turns);
     for (size_t k = 0; k < CALLS && c->layer->calls[k]; k++) {
@@ -142,6 +162,8 @@ static void print_row(const struct measured *c, double times[CALLS][MOST_TIMES],
         if (k > 0)
             printf(" %6.2f", median_ratio(times[0], times[k], rounds));
     }
+    if (c->layer == &repair && c->refusal == 0)
+        print_live(c, in, times[0], rounds);
     printf("\n");
     fflush(stdout);
 }
@@ -168,7 +190,7 @@ static void measure(const struct measured *c, size_t rounds)
     check_case(c, &in);
     for (size_t round = 0; round < rounds; round++)
         time_round(c, &in, times, round);
-    print_row(c, times, rounds);
+    print_row(c, &in, times, rounds);
 }
 
 /* The number that stands as an argument, within its bounds, or another where none does. */
@@ -185,8 +207,10 @@ int main(int argc, char **argv)
     size_t first = argument(argc > 2 ? argv[2] : NULL, 0, 0, CASES - 1), end = argc > 2 ? first + 1 : CASES;
 
     printf("ns a call, medians of %zu rounds of so many calls, with half the distance of their quartiles;\n", rounds);
-    printf("ratios are the card's time by that of the call by hand in the same round, medians too\n\n");
-    printf("%-30s %6s %16s %16s %6s %16s %6s\n", "", "calls", "card", "C", "ratio", "tuned C", "ratio");
+    printf("ratios are the card's time by that of the call by hand in the same round, medians too;\n");
+    printf("live is the mean live count, and each the card's ns for each of these prefixes\n\n");
+    printf("%-30s %6s %16s %16s %6s %16s %6s %6s %5s\n", "", "calls", "card", "C", "ratio", "tuned C", "ratio", "live",
+           "each");
     for (size_t i = first; i < end; i++)
         measure(&cases[i], rounds);
     printf("\nBefore, the calls by hand gave the card's answers to %zu inputs, of which it refuses %zu.\n",

@@ -62,6 +62,13 @@ void draw_frame_of_message(inputs *in, size_t i)
     wspr_write_word(in->words[i], in->frames[i], SYMBOLS);
 }
 
+/* The one data bit that leaves the most prefixes live at limit 2 where it is flipped. */
+void draw_worst_flip(inputs *in, size_t i)
+{
+    draw_frame_of_word(in, i);
+    in->frames[i][places[96]] ^= 2;
+}
+
 void draw_two_flips(inputs *in, size_t i)
 {
     uint32_t first = below(SYMBOLS), second = below(SYMBOLS - 1);

@@ -27,8 +27,8 @@ typedef struct {
 /* Draws one input into its list. */
 typedef void draw(inputs *in, size_t i);
 
-draw draw_message, draw_word, draw_word_of_message, draw_frame_of_word, draw_frame_of_message, draw_two_flips;
-draw draw_report, draw_message_of_report;
+draw draw_message, draw_word, draw_word_of_message, draw_frame_of_word, draw_frame_of_message;
+draw draw_worst_flip, draw_two_flips, draw_report, draw_message_of_report;
 
 /* Symbols at random that aren't refused 16 with the limit and the budget of the inputs. */
 draw draw_noise;

@@ -58,6 +58,11 @@ static const struct {
     "and at limits 10 to 12 with none. So use limits up to 9. A frame with flipped\n" \
     "data bits can have a lower or a higher live count.\n" \
     "\n" \
+    "At limit 2 the live count of a clean frame is 131, and that of a frame with one\n" \
+    "flipped data bit at most 135, which it is where the bit at place 105 is flipped.\n" \
+    "So a budget of 131 always gives the word of a clean frame back, and one of 135\n" \
+    "that of a frame with one flipped data bit, too. This is proved of every word.\n" \
+    "\n" \
     "At limit 2 and budget 16000 a word comes back where at most two data bits of its\n" \
     "frame were flipped, and no word is given where three were (17). A word that isn't\n" \
     "the one that was sent takes at least four flipped data bits, at any limit.\n"

@@ -149,6 +149,10 @@ wspr_message wspr_read_message(const uint8_t *frame, size_t frame_len, uint8_t *
  * limits up to 7, with 65,536 at limits up to 9, and at limits 10 to 12 with none. So use limits up to 9. A frame with
  * flipped data bits can have a lower or a higher live count.
  *
+ * At limit 2 the live count of a clean frame is 131, and that of a frame with one flipped data bit at most 135, which it
+ * is where the bit at place 105 is flipped. So a budget of 131 always gives the word of a clean frame back, and one of
+ * 135 that of a frame with one flipped data bit, too. This is proved of every word.
+ *
  * The margin: every other word has at least so many more disagreements than the answer. Where another word is within
  * the limit, the next nearest has exactly so many more. Where none is, the next is taken to have limit + 1, so that the
  * margin is limit + 1 less the disagreements. It grows with the limit, and other words may be further away than that.

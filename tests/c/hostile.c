@@ -491,6 +491,29 @@ static void hold_sent_word(const struct frame_input *f, uint32_t limit, uint32_t
     }
 }
 
+/* What is promised of a clean frame's live count at limits up to 5: it is the least budget that gives the word back. */
+static void hold_clean(uint32_t limit, uint32_t budget, wspr_repaired r)
+{
+    static const uint32_t live[] = {81, 81, 131, 279, 569, 1573};
+
+    hold(r.refusal == (budget < live[limit] ? 16 : 0), "a clean frame is given back with a budget of its live count");
+    hold(r.refusal || r.live == live[limit], "a clean frame has the live count of the limit");
+}
+
+/* What is promised of the live count at limit 2 where one data bit is flipped, and for which bit it is the most. */
+static void hold_one_flip(const struct frame_input *f, uint32_t budget, wspr_repaired r)
+{
+    uint8_t own[FRAME_LEN];
+    int worst;
+
+    wspr_write_word(f->word, own, FRAME_LEN);
+    worst = (own[WORST_PLACE] ^ f->symbols.bytes[WORST_PLACE]) >> 1;
+    hold(r.refusal == 0 || (r.refusal == 16 && budget < 135), "a budget of 135 is enough for one flipped data bit");
+    hold(!worst || (r.refusal == 16) == (budget < 135), "where the bit at place 105 is flipped, no less is");
+    hold(r.live <= 135, "with one flipped data bit the live count is at most 135");
+    hold(r.refusal || (r.live == 135) == worst, "it is 135 where the bit at place 105 is flipped");
+}
+
 static void hold_repair_refusal(const struct lent *frame, uint32_t limit, uint32_t budget, wspr_repaired r)
 {
     int out_of_range = limit > 12 || budget == 0 || budget > 65536;
@@ -521,8 +544,13 @@ static void try_repair(struct generator *g)
     answered(r.refusal, r.place);
     hold_unchanged(&frame, &frame);
     hold_repair_refusal(&frame, limit, budget, r);
-    if (f.of_word && !f.spoiled && frame.len == FRAME_LEN)
+    if (f.of_word && !f.spoiled && frame.len == FRAME_LEN) {
         hold_sent_word(&f, limit, budget, r);
+        if (f.flips == 0 && limit <= 5 && budget >= 1 && budget <= 65536)
+            hold_clean(limit, budget, r);
+        if (f.flips == 1 && limit == 2 && budget >= 1 && budget <= 65536)
+            hold_one_flip(&f, budget, r);
+    }
     if (r.refusal == 0) {
         hold_repaired(frame.bytes, limit, budget, r);
         hold_margin(limit, r);

@@ -211,7 +211,10 @@ static void draw_damaged(struct generator *g, struct frame_input *f)
     f->flips = draw_once_in(g, 2) ? 0 : 1 + (uint32_t)draw_below(g, draw_once_in(g, 4) ? FRAME_LEN : 3);
     f->sync_wrong = draw_once_in(g, 3) ? 1 + (uint32_t)draw_below(g, draw_once_in(g, 4) ? FRAME_LEN : 3) : 0;
     wspr_write_word(f->word, f->symbols.bytes, FRAME_LEN);
-    turn_over(g, f->symbols.bytes, 2, f->flips);
+    if (f->flips == 1 && draw_once_in(g, 8))
+        f->symbols.bytes[WORST_PLACE] ^= 2;
+    else
+        turn_over(g, f->symbols.bytes, 2, f->flips);
     turn_over(g, f->symbols.bytes, 1, f->sync_wrong);
     if (draw_once_in(g, 8))
         take_for_another(g, f);
@@ -254,9 +257,18 @@ uint32_t draw_limit(struct generator *g)
     }
 }
 
+/* Around the live counts of clean frames and of one flipped data bit at limit 2, too. */
 uint32_t draw_budget(struct generator *g)
 {
-    return draw_once_in(g, 3) ? draw_edge(g) : 81 + (uint32_t)draw_below(g, 16000);
+    switch (draw_below(g, 6)) {
+    case 0:
+    case 1:
+        return draw_edge(g);
+    case 2:
+        return 80 + (uint32_t)draw_below(g, 60);
+    default:
+        return 81 + (uint32_t)draw_below(g, 16000);
+    }
 }
 
 static void draw_right_report(struct generator *g, struct report_input *r)

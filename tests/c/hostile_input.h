@@ -21,6 +21,9 @@ struct message_input {
     uint32_t power;
 };
 
+/* Where one flipped data bit leaves the most prefixes live at limit 2. */
+#define WORST_PLACE 105
+
 struct frame_input {
     struct content symbols;
     int of_word; /* the frame of `word`, damaged or not; otherwise symbols of no known word */

@@ -7,6 +7,9 @@
 
 #define SYMBOLS 162
 
+/* Where one flipped data bit leaves the most prefixes live at limit 2. */
+#define WORST_PLACE 105
+
 /* Where the library writes the last number, the margin: tests/c/layout.c sees that it writes no further. */
 _Static_assert(offsetof(wspr_repaired, margin) == 28 && sizeof(wspr_repaired) == 32, "layout");
 
@@ -40,6 +43,10 @@ static void repair_damage(uint8_t *frame)
     repair_and_print("clean frame", frame, SYMBOLS, 2, 131);
     repair_and_print("clean frame", frame, SYMBOLS, 2, 130);
     repair_and_print("clean frame", frame, SYMBOLS, 12, 65536);
+    frame[WORST_PLACE] ^= 2;
+    repair_and_print("data bit 105 flipped", frame, SYMBOLS, 2, 135);
+    repair_and_print("data bit 105 flipped", frame, SYMBOLS, 2, 134);
+    frame[WORST_PLACE] ^= 2;
     frame[40] ^= 2;
     frame[117] ^= 2;
     repair_and_print("data bits 40 and 117 flipped", frame, SYMBOLS, 2, 16000);

@@ -1,10 +1,11 @@
 // The table of live counts by limit in README.md, the manual page, the help of `wsprcard repair`
-// and the header, and what is said to follow from it, held to counts of the independent
-// implementation.
+// and the header, and what is said to follow from it and of one flipped data bit, held to counts of
+// the independent implementation.
 use std::fs;
 
 use wsprcard_tests::child::{in_repository, Program};
-use wsprcard_tests::reference::frame::frame_of;
+use wsprcard_tests::inputs::flipped;
+use wsprcard_tests::reference::frame::{frame_of, FRAME_LEN};
 use wsprcard_tests::reference::repair::{live_count, LARGEST_BUDGET};
 use wsprcard_tests::rng::Rng;
 
@@ -67,6 +68,26 @@ fn the_texts_say_what_follows_from_the_counts() {
          at limits up to {largest}, and at limits {} to 12 with none. So use limits up to \
          {largest}. A frame with flipped data bits can have a lower or a higher live count.",
         largest + 1
+    );
+    for (name, text) in texts() {
+        assert!(in_one_line(&text).contains(&said), "{name} doesn't say: {said}");
+    }
+}
+
+/// The one place where a flipped data bit leaves the most prefixes live at limit 2 is named, too.
+#[test]
+fn the_texts_say_which_budgets_are_enough_at_limit_2() {
+    let clean = clean_counts()[2];
+    let counts: Vec<u64> =
+        (0..FRAME_LEN).map(|place| live_count(&flipped(frame_of(0), &[place]), 2)).collect();
+    let most = *counts.iter().max().unwrap();
+    let there: Vec<usize> = (0..FRAME_LEN).filter(|&place| counts[place] == most).collect();
+    let [place] = there[..] else { panic!("{most} at {there:?}") };
+    let said = format!(
+        "At limit 2 the live count of a clean frame is {clean}, and that of a frame with one \
+         flipped data bit at most {most}, which it is where the bit at place {place} is flipped. So \
+         a budget of {clean} always gives the word of a clean frame back, and one of {most} that of \
+         a frame with one flipped data bit, too. This is proved of every word."
     );
     for (name, text) in texts() {
         assert!(in_one_line(&text).contains(&said), "{name} doesn't say: {said}");

@@ -373,6 +373,24 @@ fn one_flip_leaves_at_most_135_live_prefixes_at_limit_2() {
     }
 }
 
+/// Every pair of flips of the zero word's frame: the counts are those of every word with these flips.
+/// No proof counts so far: docs/PERFORMANCE.md names the number as counted here.
+#[test]
+fn two_flips_leave_at_most_137_live_prefixes_at_limit_2() {
+    let mut received = vec![0; FRAME_LEN];
+    let mut most = 0;
+    for first in 0..FRAME_LEN {
+        received[first] = 1;
+        for second in 0..first {
+            received[second] = 1;
+            most = most.max(WSPR.live_counts(&received, 2).iter().sum());
+            received[second] = 0;
+        }
+        received[first] = 0;
+    }
+    assert_eq!(most, 137);
+}
+
 #[test]
 fn pruning_loses_no_live_prefix() {
     let mut rng = Rng::new(9);

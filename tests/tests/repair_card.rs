@@ -51,12 +51,17 @@ impl Check {
         found
     }
 
+    /// The frame with any number of its sync bits turned over, and how many they are.
+    fn with_spoiled_sync(&mut self, mut frame: Frame) -> (Frame, u32) {
+        let sync_wrong = self.rng.below(FRAME_LEN as u64 + 1) as usize;
+        spoil_sync(&mut self.rng, &mut frame, sync_wrong);
+        (frame, sync_wrong as u32)
+    }
+
     /// Flips these data bits of the word's frame and any number of its sync bits; limit 2 and a
     /// budget of 16,000 have to give the word back.
     fn give_back(&mut self, word: u64, flips: &[usize]) {
-        let mut frame = flipped(frame_of(word), flips);
-        let sync_wrong = self.rng.below(FRAME_LEN as u64 + 1) as u32;
-        spoil_sync(&mut self.rng, &mut frame, sync_wrong as usize);
+        let (frame, sync_wrong) = self.with_spoiled_sync(flipped(frame_of(word), flips));
         let found = self.repair(&frame, 2, 16_000);
         let expected = repaired(word, flips.len() as u32, found.live, 2);
         assert_eq!(found, card::Repaired { sync_wrong, ..expected }, "{word:#x} {flips:?}");
@@ -67,9 +72,7 @@ impl Check {
     /// to give no word, whatever the budget. What is live is within five of the sent word, so that
     /// a budget of a clean frame's live count at limit 5 is never passed.
     fn give_none(&mut self, frame: &Frame, flips: &[usize; 3]) {
-        let mut frame = flipped(*frame, flips);
-        let spoiled = self.rng.below(FRAME_LEN as u64 + 1) as usize;
-        spoil_sync(&mut self.rng, &mut frame, spoiled);
+        let (frame, _) = self.with_spoiled_sync(flipped(*frame, flips));
         let few = self.rng.between(1, 200) as u32;
         let budget = self.rng.pick(&[few, 16_000, LARGEST_BUDGET]);
         let found = self.repair(&frame, 2, budget);
@@ -210,6 +213,66 @@ fn two_flips_of_any_word_are_repaired_at_limit_2() {
     check.finish(&[("repair", 0, 20_000)]);
 }
 
+// How long a repair may take: live counts without a flip and with one, with any damage to the sync
+// bits
+
+/// The least budgets that give a clean frame's word back are its live counts, for every word. They
+/// are promised up to limit 5.
+#[test]
+fn clean_frames_are_given_back_with_budgets_of_their_live_counts() {
+    let mut check = Check::new(26);
+    let mut words = sent_words(&mut check.rng, 500);
+    words.extend(edge_words());
+    for &word in &words {
+        let (frame, sync_wrong) = check.with_spoiled_sync(frame_of(word));
+        for (limit, live) in [(0, 81), (1, 81), (2, 131), (3, 279), (4, 569), (5, 1_573)] {
+            let expected = card::Repaired { sync_wrong, ..repaired(word, 0, live, limit) };
+            let more = check.rng.between(u64::from(live) + 1, 65_536) as u32;
+            let fewer = check.rng.between(1, u64::from(live) - 2) as u32;
+            for budget in [live, live + 1, more, LARGEST_BUDGET] {
+                assert_eq!(check.repair(&frame, limit, budget), expected, "{word:#x} {budget}");
+            }
+            for budget in [live - 1, fewer] {
+                let found = check.repair(&frame, limit, budget);
+                assert_eq!(found, refused(16, 0), "{word:#x} {budget}");
+            }
+        }
+    }
+    let words = words.len() as u64;
+    check.finish(&[("repair", 0, words * 6 * 4), ("repair", 16, words * 6 * 2)]);
+}
+
+/// The place of the first coded bit of the 49th clocked bit: 96 coded bits come before it, and 150,
+/// the 97th address whose reversal is below 162, is 105 reversed.
+const WORST_PLACE: usize = 105;
+
+/// All 162 single flips of many words' frames: counted by the library they are what the reference
+/// counts for the zero word, 135 at most, and 135 at one place only.
+#[test]
+fn one_flip_has_at_most_135_live_prefixes_at_limit_2() {
+    assert_eq!(places().nth(2 * 48), Some(WORST_PLACE));
+    let of_zero: Vec<u32> = (0..FRAME_LEN)
+        .map(|place| live_count(&flipped(frame_of(0), &[place]), 2) as u32)
+        .collect();
+    assert_eq!((of_zero.iter().min(), of_zero.iter().max()), (Some(&85), Some(&135)));
+    let mut check = Check::new(27);
+    let mut words = sent_words(&mut check.rng, 300);
+    words.extend(edge_words());
+    for &word in &words {
+        for (place, &live) in of_zero.iter().enumerate() {
+            let (frame, sync_wrong) = check.with_spoiled_sync(flipped(frame_of(word), &[place]));
+            let expected = card::Repaired { sync_wrong, ..repaired(word, 1, live, 2) };
+            assert_eq!(check.repair(&frame, 2, 135), expected, "{word:#x} {place}");
+            assert_eq!(check.repair(&frame, 2, live), expected, "{word:#x} {place}");
+            assert_eq!(check.repair(&frame, 2, live - 1), refused(16, 0), "{word:#x} {place}");
+            let found = check.repair(&frame, 2, 134);
+            assert_eq!(found.refusal == 16, place == WORST_PLACE, "{word:#x} {place}");
+        }
+    }
+    let frames = words.len() as u64 * 162;
+    check.finish(&[("repair", 0, 2 * frames), ("repair", 16, frames)]);
+}
+
 /// A repaired word need not be a message's: to read it as one is a call of its own.
 #[test]
 fn words_that_are_no_messages_are_repaired() {
@@ -289,9 +352,7 @@ fn three_flips_of_any_word_give_no_word_at_limit_2() {
     for turn in 0..40_000 {
         let word = words[turn % words.len()];
         let places = random_places(&mut check.rng, 3);
-        let mut frame = flipped(frame_of(word), &places);
-        let spoiled = check.rng.below(FRAME_LEN as u64 + 1) as usize;
-        spoil_sync(&mut check.rng, &mut frame, spoiled);
+        let (frame, _) = check.with_spoiled_sync(flipped(frame_of(word), &places));
         let live = live_count(&frame, 2) as u32;
         assert!(u64::from(live) <= CLEAN[5], "{word:#x} {places:?}: {live}");
         for budget in [1, live.max(2) - 1, live.max(1), 16_000, LARGEST_BUDGET] {

@@ -100,10 +100,10 @@ summed-twice (x ∷ xs) (y ∷ ys) h k l =
 
 -- ---- Differences
 
-alike : (x y : ℕ) → x ≡ y → unlike x y ≡ 0
+pub alike : (x y : ℕ) → x ≡ y → unlike x y ≡ 0
 alike x y e = rw (eq-eqb x y e)
 
-not-alike : (x y : ℕ) → (x ≡ y → ⊥) → unlike x y ≡ 1
+pub not-alike : (x y : ℕ) → (x ≡ y → ⊥) → unlike x y ≡ 1
 not-alike x y other = rw (ne-eqb x y other)
 
 pub unlike-most : (x y : ℕ) → unlike x y ≤ 1
@@ -146,6 +146,17 @@ pub differences-none : (xs : List ℕ) → differences xs xs ≡ 0
 unfolding differences
 differences-none [] = refl
 differences-none (x ∷ xs) = rw (alike x x refl, differences-none xs)
+
+-- Lists of the same length without any are the same.
+pub differences-zero : (xs ys : List ℕ) → length xs ≡ length ys → differences xs ys ≡ 0 → xs ≡ ys
+unfolding differences
+differences-zero [] [] e none = refl
+differences-zero [] (y ∷ ys) e none = absurd (omega arith)
+differences-zero (x ∷ xs) [] e none = absurd (omega arith)
+differences-zero (x ∷ xs) (y ∷ ys) e none =
+    equal-or-not x y
+    (λ same. rw (same, differences-zero xs ys (omega arith) (omega (arith, alike x y same))))
+    (λ other. absurd (omega (arith, not-alike x y other)))
 
 -- The triangle inequality, for a list in the middle that is long enough.
 pub triangle : (xs ys zs : List ℕ) → length xs ≤ length ys → differences xs zs ≤ differences xs ys + differences ys zs

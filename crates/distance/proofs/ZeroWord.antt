@@ -4,7 +4,7 @@ use mathlib.Core.Path.{_≡_, refl, sym, ap, _∙_}
 use Prim.Native.Nat.{ℕ, _+_, _^_, _≤_, _<_}
 use native.Mathlib.Omega.{arith}
 use mathlib.Core.Bool.{true}
-use mathlib.Core.List.{List, [], _∷_}
+use mathlib.Core.List.{List}
 use lib.Count.{onesIn}
 use lib.Dec.{leb}
 use lib.ListN.{length, getD}
@@ -16,6 +16,7 @@ use Rattle.basics.proofs.ListLaws.{getD-tabulate}
 use Rattle.basics.proofs.Tables.{below-at}
 use Rattle.convolution.specs.Code.{clocked, firstMask, secondMask, codedBits}
 use Rattle.distance.specs.Prefixes.{freeOf, prefixBits, prefixesOf, differences, wordDisagreements, isLive, liveOf, liveCount}
+use Rattle.distance.specs.CleanCounts.{cleanCounts, cleanCount}
 use Rattle.distance.proofs.Bits.{differences-sym, differences-none}
 use Rattle.distance.proofs.PrefixLaws.{word-disagreements, live-within}
 use Rattle.distance.proofs.Recentred.{zeroBits, liveOf-clean, liveCount-clean, liveCount-flipped}
@@ -24,10 +25,7 @@ use Rattle.distance.proofs.Tree.{parity32, stepCost32, step, level, tre
 -- ---- Computed
 
 -- The live counts around the zero word at limits 0 to 5.
-abbrev pub zeroCounts : List ℕ
-zeroCounts = 81 ∷ 81 ∷ 131 ∷ 279 ∷ 569 ∷ 1573 ∷ []
-
-trees-computed : tabulate 6 (tree 81 50 0 zeroBits) ≡ zeroCounts
+trees-computed : tabulate 6 (tree 81 50 0 zeroBits) ≡ cleanCounts
 unfolding tabulate tree step stepCost32 parity32 onesIn clocked firstMask secondMask differences
 trees-computed = refl
 
@@ -38,21 +36,23 @@ words-computed = refl
 
 -- ---- For every word
 
--- "a clean frame has live count 81 at limits 0 and 1, and 131 at limit 2", and so on.
-pub clean-counts : (word limit : ℕ) → limit < 6 → liveCount (codedBits word) limit ≡ getD zeroCounts limit 0
+-- "a clean frame has live count 81 at limits 0 and 1 and exactly 131 at limit 2", and so on.
+pub clean-counts : (word limit : ℕ) → limit ≤ 5 → liveCount (codedBits word) limit ≡ cleanCount limit
+unfolding cleanCount
 clean-counts word limit h =
     liveCount-clean word limit
     ∙ liveCount-tree zeroBits limit
-    ∙ sym (getD-tabulate 6 (tree 81 50 0 zeroBits) limit h)
+    ∙ sym (getD-tabulate 6 (tree 81 50 0 zeroBits) limit (omega arith))
     ∙ ap (λ (counts : List ℕ). getD counts limit 0) trees-computed
 
 -- With the limit and the flips together four at most, the live count is at most that of the unflipped frame at limit 4.
 pub flipped-most : (received : List ℕ) (word limit : ℕ) → length received ≡ 162 → limit + wordDisagreements received word ≤ 4
     → liveCount received limit ≤ 569
+unfolding cleanCount
 flipped-most received word limit long h =
     let flips = differences received (codedBits word) in
     let four : limit + flips < 5 = omega (arith, word-disagreements received word, differences-sym received (codedBits word)) in
-    let most = leb-true (getD zeroCounts (limit + flips) 0) 569 (below-at (λ at. leb (getD zeroCounts at 0) 569) 5 refl (limit + flips) four) in
+    let most = leb-true (cleanCount (limit + flips)) 569 (below-at (λ at. leb (cleanCount at) 569) 5 refl (limit + flips) four) in
     omega (arith, liveCount-flipped word received long limit, clean-counts word (limit + flips) (omega arith), most)
 
 one-within-five : (word : ℕ) → liveOf (codedBits word) 5 81 ≡ 1

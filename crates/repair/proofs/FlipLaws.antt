@@ -1,6 +1,8 @@
 -- Flipped data bits: counted in frame order they are the sent word's disagreements in S order; the frames of two words differ in six data bits
--- or more; two flips at most are repaired; and what follows of more flips, over the least number of data bits in which frames differ.
+-- or more; and what follows of flips within the limit, two at most among them, and of more, over the least number of data bits in which
+-- frames differ.
 use mathlib.Core.Path.{_≡_, refl, sym, ap, ap₂, _∙_}
+use mathlib.Core.Logic.{_↔_}
 use Prim.Native.Nat.{ℕ, _+_, _-_, _^_, _≤_, _<_}
 use native.Mathlib.Omega.{arith}
 use mathlib.Core.Bool.{not}
@@ -33,10 +35,10 @@ module _ (word : ℕ) (frame : List ℕ) where
   received = receivedBits frame
 
   -- At the place of a coded bit stand the received one and the sent one.
-  received-there : (index : ℕ) → index < 162 → getD received index 0 ≡ dataAt frame (placeOf index)
+  pub received-there : (index : ℕ) → index < 162 → getD received index 0 ≡ dataAt frame (placeOf index)
   received-there index h = getD-receivedBits frame index h
 
-  sent-there : (index : ℕ) → index < 162 → getD (codedBits word) index 0 ≡ dataAt (frameOf word) (placeOf index)
+  pub sent-there : (index : ℕ) → index < 162 → getD (codedBits word) index 0 ≡ dataAt (frameOf word) (placeOf index)
   sent-there index h = ap (λ (bits : List ℕ). getD bits index 0) (sym (received-frameOf word)) ∙ getD-receivedBits (frameOf word) index h
 
   pub flips-disagreements : flips word frame ≡ wordDisagreements received word
@@ -73,31 +75,30 @@ flips-together v w frame =
       flips-disagreements w frame,
     )
 
--- ---- Two flips at most
+-- ---- Flips within the limit
 
-module _ (word : ℕ) (frame : List ℕ) (h : word < 2 ^ 50) (few : flips word frame ≤ 2) where
+-- Together with the limit they are fewer than the data bits in which frames differ.
+module _ (least : ℕ) (apart : FramesApart least) (word : ℕ) (frame : List ℕ) (limit : ℕ) (h : word < 2 ^ 50) (few : flips word frame ≤ limit)
+    (fewer : flips word frame + limit < least) where
   same : flips word frame ≡ wordDisagreements (receivedBits frame) word
   same = flips-disagreements word frame
 
-  live-most : liveCount (receivedBits frame) 2 ≤ 569
-  live-most = flipped-most (receivedBits frame) word 2 (length-receivedBits frame) (omega (arith, same))
-
-  -- Any other word is six or more from the sent one, so four or more from what was received.
-  others-far : (other : ℕ) → other < 2 ^ 50 → (other ≡ word → ⊥) → 4 ≤ wordDisagreements (receivedBits frame) other
+  -- Any other word differs from the sent one in so many that it isn't within the limit of what was received.
+  others-far : (other : ℕ) → other < 2 ^ 50 → (other ≡ word → ⊥) → limit < wordDisagreements (receivedBits frame) other
   others-far other k different =
-      omega (arith, frames-six-apart other word k h different, flips-together other word frame, flips-disagreements other frame)
+      omega (arith, apart other word k h different, flips-together other word frame, flips-disagreements other frame)
 
   others-more : OnlyNearest (receivedBits frame) word
   others-more = (h, λ other k different. omega (arith, others-far other k different, same))
 
-  margin-left : IsMargin (receivedBits frame) 2 word (3 - flips word frame)
+  margin-left : IsMargin (receivedBits frame) limit word (limit + 1 - flips word frame)
   margin-left =
       rw same
-      (margin-to (receivedBits frame) 2 word 3 (omega (arith, same)) (omega arith)
+      (margin-to (receivedBits frame) limit word (limit + 1) (omega (arith, same)) (omega arith)
       (λ other k different. omega (arith, others-far other k different))
       (λ within. absurd (omega arith)))
 
-  given-back-is : IsNearest frame 2 (givenBack word frame 2)
+  given-back-is : IsNearest frame limit (givenBack word frame limit)
   unfolding givenBack nearestWith
   given-back-is =
       record {
@@ -109,16 +110,20 @@ module _ (word : ℕ) (frame : List ℕ) (h : word < 2 ^ 50) (few : flips word f
         its-margin = margin-left;
       }
 
-  -- A budget from 569 on is enough.
-  sent-repaired : (budget : ℕ) → 569 ≤ budget → budget ≤ 65_536 → RightSymbols frame
-      → frameRepaired frame 2 budget ≡ RepairAnswer.Word (givenBack word frame 2)
-  sent-repaired budget enough most right =
-      let bounds : Bounds 2 budget = record { limit-to-12 = omega arith; budget-from-1 = omega arith; budget-to-65536 = most } in
-      demanded frame 2 budget right bounds .answered (givenBack word frame 2) .1 (omega (arith, live-most), given-back-is)
+  -- The sent word is given back exactly where the budget is enough.
+  pub sent-repaired : (budget : ℕ) → RightSymbols frame → Bounds limit budget
+      → ((frameRepaired frame limit budget ≡ RepairAnswer.Word (givenBack word frame limit)) ↔ (liveCount (receivedBits frame) limit ≤ budget))
+  sent-repaired budget right bounds =
+      let told = demanded frame limit budget right bounds .answered (givenBack word frame limit) in
+      ((λ e. told .0 e .0), λ enough. told .1 (enough, given-back-is))
 
+-- Two at most, at limit 2: a budget from 569 on is enough.
 pub two-flips-repaired : (frame : List ℕ) (limit budget : ℕ) → TwoFlipsRepaired frame limit budget (frameRepaired frame limit budget)
 two-flips-repaired frame limit budget two enough right word h few =
-    rw (two, enough) (sent-repaired word frame h few 16_000 (omega arith) (omega arith) right)
+    let live = flipped-most (receivedBits frame) word 2 (length-receivedBits frame) (omega (arith, flips-disagreements word frame)) in
+    let bounds : Bounds 2 16_000 = record { limit-to-12 = omega arith; budget-from-1 = omega arith; budget-to-65536 = omega arith } in
+    rw (two, enough)
+    (sent-repaired 6 frames-six-apart word frame 2 h few (omega arith) 16_000 right bounds .1 (omega (arith, live)))
 
 -- ---- More flips than the limit, and other words
 

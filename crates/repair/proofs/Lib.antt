@@ -1,6 +1,7 @@
 -- `BoundLaws`: the limit and the budget. `AnswerLaws`: the answer is what demand 3 asks for. `CheckLaws`: what is refused before a search.
--- `FlipLaws`: flipped data bits: two at most are repaired, and what follows of more. `BestLaws`: the nearest word so far. `Walk`: the moves of
--- the search. `FoundLaws`: the answer that a search gives. `Promises`: all that the answer is held to.
+-- `FlipLaws`: flipped data bits: those within the limit are repaired, and what follows of more. `BestLaws`: the nearest word so far. `Walk`:
+-- the moves of the search. `FoundLaws`: the answer that a search gives. `LiveLaws`: the live counts without a flip and with one. `Promises`:
+-- all that the answer is held to.
 pub mod BoundLaws
 pub mod AnswerLaws
 pub mod CheckLaws
@@ -8,4 +9,5 @@ pub mod FlipLaws
 pub mod BestLaws
 pub mod Walk
 pub mod FoundLaws
+pub mod LiveLaws
 pub mod Promises

@@ -9,6 +9,7 @@ ghost use mathlib.Core.Path.{_≡_};
 ghost use Rattle.repair.specs.Answer.{firstBadBound, frameRepaired, repairNumbers};
 ghost use Rattle.repair.specs.Demand.{AsChecked, AsDemanded};
 ghost use Rattle.repair.specs.Flips.{TwoFlipsRepaired, ThreeFlipsRefused, WrongWordFlips};
+ghost use Rattle.repair.specs.LiveCounts.{CleanRepaired, OneFlipRepaired};
 ghost use Rattle.repair.specs.Search.{answerOf};
 use refusal::BAD_BOUND;
 use refusal::NONE_WITHIN_LIMIT;
@@ -92,6 +93,8 @@ pub fn repair(frame: &[u8], limit: u32, budget: u32) -> RepairAnswer
     ensures two_flips { λ r. ⌜ TwoFlipsRepaired (now (frame .entry)) limit budget r ⌝ }
     ensures three_flips { λ r. ⌜ ThreeFlipsRefused (now (frame .entry)) limit budget r ⌝ }
     ensures wrong_word { λ r. ⌜ WrongWordFlips 6 (now (frame .entry)) limit budget r ⌝ }
+    ensures clean { λ r. ⌜ CleanRepaired (now (frame .entry)) limit budget r ⌝ }
+    ensures one_flip { λ r. ⌜ OneFlipRepaired (now (frame .entry)) limit budget r ⌝ }
 {
     if frame.len() != 162 {
         return RepairAnswer::Refused(Refusal {

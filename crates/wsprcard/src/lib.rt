@@ -9,6 +9,7 @@ ghost use Rattle.frame.specs.RoundTrip.{WordReadsBack, WordWritesBack, WordRefu
 ghost use Rattle.repair.specs.Answer.{frameRepaired, repairNumbers};
 ghost use Rattle.repair.specs.Demand.{AsChecked, AsDemanded};
 ghost use Rattle.repair.specs.Flips.{TwoFlipsRepaired, ThreeFlipsRefused, WrongWordFlips};
+ghost use Rattle.repair.specs.LiveCounts.{CleanRepaired, OneFlipRepaired};
 ghost use Rattle.telemetry.specs.Answer.{telemetryWritten, telemetryRead, telemetryNumbers, callsignAfterTelemetry, locatorAfterTelemetry};
 ghost use Rattle.telemetry.specs.RoundTrip.{TelemetryReadsBack, TelemetryWithinSteps, TelemetryWritesBack, TelemetryRefusedExactly};
 ghost use Rattle.wsprcard.specs.Results.{writtenResult, wordResult, messageResult, repairedResult, readingResult, writeAnswerIn, wordAnswerIn, messageAnswerIn, repairAnswerIn, telemetryAnswerIn, measuredFrom};
@@ -262,6 +263,8 @@ pub extern "C" fn wspr_repair(frame: &[u8], limit: u32, budget: u32) -> WsprRepa
     ensures two_flips { λ r. ⌜ TwoFlipsRepaired (now (frame .entry)) limit budget (repairAnswerIn r) ⌝ }
     ensures three_flips { λ r. ⌜ ThreeFlipsRefused (now (frame .entry)) limit budget (repairAnswerIn r) ⌝ }
     ensures wrong_word { λ r. ⌜ WrongWordFlips 6 (now (frame .entry)) limit budget (repairAnswerIn r) ⌝ }
+    ensures clean { λ r. ⌜ CleanRepaired (now (frame .entry)) limit budget (repairAnswerIn r) ⌝ }
+    ensures one_flip { λ r. ⌜ OneFlipRepaired (now (frame .entry)) limit budget (repairAnswerIn r) ⌝ }
 {
     repaired_result(repair::repair(frame, limit, budget))
 }

@@ -1,0 +1,11 @@
+-- How many prefixes are live where a word's own coded bits are received (02, L8).
+use Prim.Native.Nat.{ℕ}
+use mathlib.Core.List.{List, [], _∷_}
+use lib.ListN.{getD}
+
+-- "a clean frame has live count 81 at limits 0 and 1 and exactly 131 at limit 2", and so on to limit 5.
+abbrev pub cleanCounts : List ℕ
+cleanCounts = 81 ∷ 81 ∷ 131 ∷ 279 ∷ 569 ∷ 1573 ∷ []
+
+unfoldable pub cleanCount : ℕ → ℕ
+cleanCount limit = getD cleanCounts limit 0
