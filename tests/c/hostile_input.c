@@ -257,7 +257,7 @@ uint32_t draw_limit(struct generator *g)
     }
 }
 
-/* Around the live counts of clean frames and of one flipped data bit at limit 2, too. */
+/* Often next to 81, 131 and 135, the live counts of clean frames and of the worst flipped data bit. */
 uint32_t draw_budget(struct generator *g)
 {
     switch (draw_below(g, 6)) {
@@ -265,7 +265,7 @@ uint32_t draw_budget(struct generator *g)
     case 1:
         return draw_edge(g);
     case 2:
-        return 80 + (uint32_t)draw_below(g, 60);
+        return (draw_once_in(g, 4) ? 78 : 128) + (uint32_t)draw_below(g, 8);
     default:
         return 81 + (uint32_t)draw_below(g, 16000);
     }

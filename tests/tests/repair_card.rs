@@ -251,9 +251,8 @@ const WORST_PLACE: usize = 105;
 #[test]
 fn one_flip_has_at_most_135_live_prefixes_at_limit_2() {
     assert_eq!(places().nth(2 * 48), Some(WORST_PLACE));
-    let of_zero: Vec<u32> = (0..FRAME_LEN)
-        .map(|place| live_count(&flipped(frame_of(0), &[place]), 2) as u32)
-        .collect();
+    let of_zero: Vec<u32> =
+        (0..FRAME_LEN).map(|place| live_count(&flipped(frame_of(0), &[place]), 2) as u32).collect();
     assert_eq!((of_zero.iter().min(), of_zero.iter().max()), (Some(&85), Some(&135)));
     let mut check = Check::new(27);
     let mut words = sent_words(&mut check.rng, 300);
