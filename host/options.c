@@ -48,7 +48,8 @@ static const struct {
     "limit, the next is taken to have limit + 1.\n"
 #define COUNTS_HELP \
     "\n" \
-    "The live count of a clean frame, in which no data bit is flipped, by limit:\n" \
+    "The live count of a clean frame, in which no data bit is flipped, by limit;\n" \
+    "proved up to limit 5:\n" \
     "\n" \
     "  limit  0  1   2   3   4    5    6    7     8     9    10     11     12\n" \
     "  live  81 81 131 279 569 1573 3495 7611 17851 42557 97265 222823 514948\n" \
@@ -59,9 +60,10 @@ static const struct {
     "data bits can have a lower or a higher live count.\n" \
     "\n" \
     "At limit 2 the live count of a clean frame is 131, and that of a frame with one\n" \
-    "flipped data bit at most 135, which it is where the bit at place 105 is flipped.\n" \
-    "So a budget of 131 always gives the word of a clean frame back, and one of 135\n" \
-    "that of a frame with one flipped data bit, too. This is proved of every word.\n" \
+    "flipped data bit at most 135, reached exactly where the data bit of symbol 105,\n" \
+    "counted from 0, is the flipped one. So a budget of 131 always gives the word of a\n" \
+    "clean frame back, and one of 135 that of a frame with one flipped data bit, too.\n" \
+    "This is proved for every word.\n" \
     "\n" \
     "At limit 2 and budget 16000 a word comes back where at most two data bits of its\n" \
     "frame were flipped, and no word is given where three were (17). A word that isn't\n" \

@@ -140,7 +140,7 @@ wspr_message wspr_read_message(const uint8_t *frame, size_t frame_len, uint8_t *
  *   limit   0 to 12 data bits: the most disagreements that the word may have
  *   budget  1 to 65,536 prefixes: the largest live count that is gone through
  *
- * The live count of a clean frame, in which no data bit is flipped, by limit:
+ * The live count of a clean frame, in which no data bit is flipped, by limit; proved up to limit 5:
  *
  *   limit  0  1   2   3   4     5     6     7      8      9     10      11      12
  *   live  81 81 131 279 569 1,573 3,495 7,611 17,851 42,557 97,265 222,823 514,948
@@ -149,9 +149,10 @@ wspr_message wspr_read_message(const uint8_t *frame, size_t frame_len, uint8_t *
  * limits up to 7, with 65,536 at limits up to 9, and at limits 10 to 12 with none. So use limits up to 9. A frame with
  * flipped data bits can have a lower or a higher live count.
  *
- * At limit 2 the live count of a clean frame is 131, and that of a frame with one flipped data bit at most 135, which it
- * is where the bit at place 105 is flipped. So a budget of 131 always gives the word of a clean frame back, and one of
- * 135 that of a frame with one flipped data bit, too. This is proved of every word.
+ * At limit 2 the live count of a clean frame is 131, and that of a frame with one flipped data bit at most 135, reached
+ * exactly where the data bit of symbol 105, counted from 0, is the flipped one. So a budget of 131 always gives the
+ * word of a clean frame back, and one of 135 that of a frame with one flipped data bit, too. This is proved for every
+ * word.
  *
  * The margin: every other word has at least so many more disagreements than the answer. Where another word is within
  * the limit, the next nearest has exactly so many more. Where none is, the next is taken to have limit + 1, so that the

@@ -85,9 +85,10 @@ fn the_texts_say_which_budgets_are_enough_at_limit_2() {
     let [place] = there[..] else { panic!("{most} at {there:?}") };
     let said = format!(
         "At limit 2 the live count of a clean frame is {clean}, and that of a frame with one \
-         flipped data bit at most {most}, which it is where the bit at place {place} is flipped. So \
-         a budget of {clean} always gives the word of a clean frame back, and one of {most} that of \
-         a frame with one flipped data bit, too. This is proved of every word."
+         flipped data bit at most {most}, reached exactly where the data bit of symbol {place}, \
+         counted from 0, is the flipped one. So a budget of {clean} always gives the word of a \
+         clean frame back, and one of {most} that of a frame with one flipped data bit, too. This \
+         is proved for every word."
     );
     for (name, text) in texts() {
         assert!(in_one_line(&text).contains(&said), "{name} doesn't say: {said}");

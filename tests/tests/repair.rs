@@ -374,7 +374,7 @@ fn one_flip_leaves_at_most_135_live_prefixes_at_limit_2() {
 }
 
 /// Every pair of flips of the zero word's frame: the counts are those of every word with these flips.
-/// No proof counts so far: docs/PERFORMANCE.md names the number as counted here.
+/// No proof goes that far: docs/PERFORMANCE.md names the number as counted here.
 #[test]
 fn two_flips_leave_at_most_137_live_prefixes_at_limit_2() {
     let mut received = vec![0; FRAME_LEN];

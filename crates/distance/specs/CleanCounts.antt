@@ -7,5 +7,6 @@ use lib.ListN.{getD}
 abbrev pub cleanCounts : List ℕ
 cleanCounts = 81 ∷ 81 ∷ 131 ∷ 279 ∷ 569 ∷ 1573 ∷ []
 
+-- The count at a limit up to 5; what it is above that isn't said.
 unfoldable pub cleanCount : ℕ → ℕ
 cleanCount limit = getD cleanCounts limit 0

@@ -83,7 +83,7 @@ module _ (least : ℕ) (apart : FramesApart least) (word : ℕ) (frame : List �
   same : flips word frame ≡ wordDisagreements (receivedBits frame) word
   same = flips-disagreements word frame
 
-  -- Any other word differs from the sent one in so many that it isn't within the limit of what was received.
+  -- Any other word differs from the sent one in so many data bits that it isn't within the limit of what was received.
   others-far : (other : ℕ) → other < 2 ^ 50 → (other ≡ word → ⊥) → limit < wordDisagreements (receivedBits frame) other
   others-far other k different =
       omega (arith, apart other word k h different, flips-together other word frame, flips-disagreements other frame)

@@ -34,8 +34,8 @@ flips-differences word frame = flips-disagreements word frame ∙ word-disagreem
 
 -- ---- No flip
 
-clean-count : (word : ℕ) (frame : List ℕ) (limit : ℕ) → flips word frame ≡ 0 → limit ≤ 5 → liveCount (receivedBits frame) limit ≡ cleanCount limit
-clean-count word frame limit none h =
+clean-frame-count : (word : ℕ) (frame : List ℕ) (limit : ℕ) → flips word frame ≡ 0 → limit ≤ 5 → liveCount (receivedBits frame) limit ≡ cleanCount limit
+clean-frame-count word frame limit none h =
     let size : length (codedBits word) ≡ length (receivedBits frame) = length-codedBits word ∙ sym (length-receivedBits frame) in
     let same : codedBits word ≡ receivedBits frame =
     differences-zero (codedBits word) (receivedBits frame) size (sym (flips-differences word frame) ∙ none) in
@@ -49,20 +49,21 @@ module _ (word : ℕ) (frame : List ℕ) (right : RightSymbols frame) (one : fli
       let received = received-bits frame right in
       bits-each (receivedBits frame) (λ i h. received .are-bits i (omega (arith, received .right-length)))
 
-  one-apart : differences (codedBits word) (receivedBits frame) ≡ 1
-  one-apart = sym (flips-differences word frame) ∙ one
+  differ-in-one : differences (codedBits word) (receivedBits frame) ≡ 1
+  differ-in-one = sym (flips-differences word frame) ∙ one
 
-  -- At its place is the coded bit of an index, as it was received and as it was sent.
+  -- 135 are live where the coded bit of index 96 is flipped. That the index is 96 is a fact by itself, so that it is what fails where the
+  -- definition has another one.
   count-there : (index : ℕ) → index ≡ 96 → flippedAt word frame (placeOf index) ≡ true → liveCount (receivedBits frame) 2 ≡ 135
   count-there index e flipped =
-      one-flip-there word (receivedBits frame) are-bits (length-receivedBits frame) one-apart
+      one-flip-there word (receivedBits frame) are-bits (length-receivedBits frame) differ-in-one
       (λ same.
       eqb-false _ _ (not-true _ flipped)
       (sym (received-there word frame index (omega arith)) ∙ rw e (sym same) ∙ sent-there word frame index (omega arith)))
 
   count-elsewhere : (index : ℕ) → index ≡ 96 → flippedAt word frame (placeOf index) ≡ false → liveCount (receivedBits frame) 2 ≤ 134
   count-elsewhere index e as-sent =
-      one-flip-elsewhere word (receivedBits frame) are-bits (length-receivedBits frame) one-apart
+      one-flip-elsewhere word (receivedBits frame) are-bits (length-receivedBits frame) differ-in-one
       (rw (← e)
       (sent-there word frame index (omega arith)
       ∙ sym (eqb-true _ _ (not-false _ as-sent))
@@ -81,7 +82,7 @@ module _ (word : ℕ) (frame : List ℕ) (right : RightSymbols frame) (one : fli
       }
 
 pub counts-by-flips : CountsByFlips
-counts-by-flips frame right word h = ((λ none limit. clean-count word frame limit none), one-flip-count word frame right)
+counts-by-flips frame right word h = ((λ none limit. clean-frame-count word frame limit none), one-flip-count word frame right)
 
 -- ---- What is answered
 
@@ -92,7 +93,7 @@ module _ (frame : List ℕ) (limit budget : ℕ) (right : RightSymbols frame) (b
 
 pub clean-repaired : (frame : List ℕ) (limit budget : ℕ) → CleanRepaired frame limit budget (frameRepaired frame limit budget)
 clean-repaired frame limit budget to-5 bounds right word h none =
-    let live = clean-count word frame limit none to-5 in
+    let live = clean-frame-count word frame limit none to-5 in
     let back = sent-repaired 6 frames-six-apart word frame limit h (omega arith) (omega arith) budget right bounds in
     record {
       counted = λ nearest e. carried frame limit budget right bounds nearest e ∙ live;
@@ -108,5 +109,6 @@ one-flip-repaired frame limit budget two bounds right word h one =
     rw two
     (record {
       counted = λ nearest e. rw (carried frame 2 budget right within nearest e) count;
-      given-back = λ enough. back .1 (omega (arith, count .at-most));
+      given-back = back;
+      always-given-back = λ enough. back .1 (omega (arith, count .at-most));
     })

@@ -22,12 +22,12 @@ flippedAt word frame place = not (eqb (dataAt frame place) (dataAt (frameOf word
 unfoldable pub flips : ℕ → List ℕ → ℕ
 flips word frame = countBelow 162 (flippedAt word frame)
 
--- ---- Two at most
-
--- The sent word, "with the number of flipped bits as its disagreements", and what else the answer holds. At limit 2 and with two flips at
--- most no other word is within the limit, so that the next "is taken as limit + 1".
+-- The sent word, "with the number of flipped bits as its disagreements", and what else the answer holds. It is said where no other word is
+-- within the limit, so that the next "is taken as limit + 1".
 unfoldable pub givenBack : ℕ → List ℕ → ℕ → Nearest
 givenBack word frame limit = nearestWith frame limit word (flips word frame) (limit + 1 - flips word frame)
+
+-- ---- Two at most
 
 -- "Whichever 50-bit word was sent, whichever of its frame's 162 data bits were flipped, two at most, and whatever became of the sync
 -- bits, limit 2 with a budget of 16,000 gives that word back, with the number of flipped bits as its disagreements."

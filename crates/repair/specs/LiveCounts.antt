@@ -16,7 +16,8 @@ use Rattle.repair.specs.declared.RepairAnswer.{RepairAnswer}
 
 -- ---- The counts
 
--- "the first coded bit of the 49th clocked bit": its index, counted from 0. Each clocked bit gives two.
+-- "the first coded bit of the 49th clocked bit", which leaves the most prefixes live where it alone is flipped: its index, counted from 0,
+-- as each clocked bit gives two.
 abbrev pub worstIndex : ℕ
 worstIndex = 2 * (49 - 1)
 
@@ -47,10 +48,12 @@ CleanRepaired frame limit budget answer =
     limit ≤ 5 → Bounds limit budget → RightSymbols frame → (word : ℕ) → word < 2 ^ 50 → flips word frame ≡ 0
     → CleanAnswered word frame limit budget answer
 
--- On a frame with one flipped data bit, at limit 2: an answer carries such a count, and a budget of 135 or more gives the sent word back.
+-- On a frame with one flipped data bit, at limit 2: an answer carries such a count; a budget of the live count or more, and no other, gives
+-- the sent word back; and so one of 135 or more always does.
 pub record OneFlipAnswered (word : ℕ) (frame : List ℕ) (budget : ℕ) (answer : RepairAnswer) : Type 0 where
   pub counted : (nearest : Nearest) → answer ≡ RepairAnswer.Word nearest → OneFlipCount word frame (nearest .live)
-  pub given-back : 135 ≤ budget → answer ≡ RepairAnswer.Word (givenBack word frame 2)
+  pub given-back : (answer ≡ RepairAnswer.Word (givenBack word frame 2)) ↔ (liveCount (receivedBits frame) 2 ≤ budget)
+  pub always-given-back : 135 ≤ budget → answer ≡ RepairAnswer.Word (givenBack word frame 2)
 
 abbrev pub OneFlipRepaired : List ℕ → ℕ → ℕ → RepairAnswer → Type 0
 OneFlipRepaired frame limit budget answer =
