@@ -51,12 +51,12 @@ module _ (word : ℕ) (received : List ℕ) (are-bits : AllBits received) (long 
       ∙ ap (λ (bits : List ℕ). liveCount bits 2) (flipped .sum)
       ∙ liveCount-tree (oneAt 162 index) 2
 
-  fits : cond (eqb index 96) (eqb live 135) (leb live 134) ≡ true
-  unfolding countFits
-  fits = counts-computed index (flipped .within)
-
   abbrev chosen : Bool → Bool
   chosen t = cond t (eqb live 135) (leb live 134)
+
+  fits : chosen (eqb index 96) ≡ true
+  unfolding countFits
+  fits = counts-computed index (flipped .within)
 
   pub one-flip-there : (getD (codedBits word) 96 0 ≡ getD received 96 0 → ⊥) → liveCount received 2 ≡ 135
   one-flip-there other =
