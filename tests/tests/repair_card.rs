@@ -225,7 +225,7 @@ fn clean_frames_are_given_back_with_budgets_of_their_live_counts() {
     words.extend(edge_words());
     for &word in &words {
         let (frame, sync_wrong) = check.with_spoiled_sync(frame_of(word));
-        for (limit, live) in [(0, 81), (1, 81), (2, 131), (3, 279), (4, 569), (5, 1_573)] {
+        for (limit, live) in (0..=5).zip(CLEAN.map(|live| live as u32)) {
             let expected = card::Repaired { sync_wrong, ..repaired(word, 0, live, limit) };
             let more = check.rng.between(u64::from(live) + 1, 65_536) as u32;
             let fewer = check.rng.between(1, u64::from(live) - 2) as u32;

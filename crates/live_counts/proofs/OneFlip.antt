@@ -14,7 +14,7 @@ use Rattle.basics.proofs.Tables.{below-at}
 use Rattle.convolution.specs.Code.{clocked, firstMask, secondMask, codedBits}
 use Rattle.convolution.proofs.CodeLaws.{length-codedBits}
 use Rattle.distance.specs.Prefixes.{differences, liveCount}
-use Rattle.distance.proofs.Bits.{AllBits, summed}
+use Rattle.distance.proofs.Bits.{AllBits}
 use Rattle.distance.proofs.PrefixLaws.{bits-codedBits}
 use Rattle.distance.proofs.Recentred.{liveCount-around}
 use Rattle.distance.proofs.Tree.{parity32, stepCost32, step, tree, liveCount-tree}

@@ -1,6 +1,6 @@
 -- The live counts of frames without a flipped data bit and with one, and what repair answers on them.
 use mathlib.Core.Path.{_≡_, refl, sym, ap, _∙_}
-use Prim.Native.Nat.{ℕ, _^_, _≤_, _<_}
+use Prim.Native.Nat.{ℕ, _≤_}
 use native.Mathlib.Omega.{arith}
 use mathlib.Core.Bool.{true, false}
 use mathlib.Core.List.{List}
@@ -18,9 +18,9 @@ use Rattle.distance.proofs.Bits.{AllBits, bits-each, differences-zero}
 use Rattle.distance.proofs.PrefixLaws.{word-disagreements}
 use Rattle.distance.proofs.ZeroWord.{clean-counts}
 use Rattle.live_counts.proofs.OneFlip.{one-flip-there, one-flip-elsewhere}
-use Rattle.repair.specs.Answer.{nearestWith, frameRepaired}
+use Rattle.repair.specs.Answer.{frameRepaired}
 use Rattle.repair.specs.Demand.{Bounds}
-use Rattle.repair.specs.Flips.{flippedAt, flips, givenBack}
+use Rattle.repair.specs.Flips.{flippedAt, flips}
 use Rattle.repair.specs.LiveCounts.{worstIndex, OneFlipCount, CountsByFlips, CleanRepaired, OneFlipRepaired}
 use Rattle.repair.specs.declared.Nearest.{Nearest}
 use Rattle.repair.specs.declared.RepairAnswer.{RepairAnswer}
