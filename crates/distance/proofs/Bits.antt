@@ -33,6 +33,11 @@ unfolding AllBits
 bits-append [] ys h k = k
 bits-append (x ∷ xs) ys h k = (h .0, bits-append xs ys (h .1) k)
 
+pub bits-parts : (xs ys : List ℕ) → AllBits (xs ++ ys) → AllBits xs × AllBits ys
+unfolding AllBits
+bits-parts [] ys h = (tt, h)
+bits-parts (x ∷ xs) ys h = let (first, later) = bits-parts xs ys (h .1) in ((h .0, first), later)
+
 pub bits-drop : (n : ℕ) (xs : List ℕ) → AllBits xs → AllBits (drop n xs)
 unfolding AllBits
 bits-drop zero xs h = h
@@ -87,6 +92,16 @@ summed-unchanged zero (x ∷ xs) h k = absurd (omega arith)
 summed-unchanged (suc n) (x ∷ xs) h k =
     let same : (x + 0) % 2 ≡ x = omega (arith, h .0) in
     rw (same, summed-unchanged n xs (h .1) (omega arith))
+
+-- A list and itself make zeros.
+pub summed-same : (n : ℕ) (xs : List ℕ) → length xs ≡ n → summed xs xs ≡ replicate n 0
+unfolding summed
+summed-same zero [] e = refl
+summed-same zero (x ∷ xs) e = absurd (omega arith)
+summed-same (suc n) [] e = absurd (omega arith)
+summed-same (suc n) (x ∷ xs) e =
+    let even : (x + x) % 2 ≡ 0 = omega arith in
+    rw (even, summed-same n xs (omega arith))
 
 -- What is added twice is gone.
 pub summed-twice : (xs ys : List ℕ) → AllBits xs → AllBits ys → length ys ≤ length xs → summed xs (summed xs ys) ≡ ys

@@ -6,7 +6,7 @@ use mathlib.Core.List.{List, [], _∷_}
 use lib.ListN.{length, getD, replicate}
 use Rattle.basics.proofs.Choice.{equal-or-not}
 use Rattle.distance.specs.Prefixes.{differences}
-use Rattle.distance.proofs.Bits.{AllBits, summed, alike, not-alike, differences-zero}
+use Rattle.distance.proofs.Bits.{AllBits, summed, summed-same, alike, not-alike, differences-zero}
 
 -- So many bits: a 1 at an index, and zeros.
 unfoldable pub oneAt : ℕ → ℕ → List ℕ
@@ -21,15 +21,6 @@ pub record ApartAt (n : ℕ) (xs ys : List ℕ) : Type 0 where
   pub apart : getD xs index 0 ≡ getD ys index 0 → ⊥
   pub elsewhere : (i : ℕ) → (i ≡ index → ⊥) → getD xs i 0 ≡ getD ys i 0
   pub sum : summed xs ys ≡ oneAt n index
-
-summed-same : (n : ℕ) (xs : List ℕ) → length xs ≡ n → summed xs xs ≡ replicate n 0
-unfolding summed
-summed-same zero [] e = refl
-summed-same zero (x ∷ xs) e = absurd (omega arith)
-summed-same (suc n) [] e = absurd (omega arith)
-summed-same (suc n) (x ∷ xs) e =
-    let even : (x + x) % 2 ≡ 0 = omega arith in
-    rw (even, summed-same n xs (omega arith))
 
 -- ---- With one bit more
 

@@ -1,0 +1,2 @@
+-- `Least`: the code's least distance.
+pub mod Least
