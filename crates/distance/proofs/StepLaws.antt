@@ -204,7 +204,7 @@ coded-others : (mask register x : ℕ) → mask % 2 ≡ 1 → x < 2
 coded-others mask register x odd h =
     unlike-others (parity mask (clocked register 0)) (parity mask (clocked register 1)) x (parity-other mask register odd) h
 
-step-others : (received : List ℕ) (register : ℕ) → 2 ≤ length received → AllBits received
+pub step-others : (received : List ℕ) (register : ℕ) → 2 ≤ length received → AllBits received
     → stepCost received (clocked register 0) + stepCost received (clocked register 1) ≡ 2
 unfolding stepCost differences AllBits
 step-others [] register long h = absurd (omega arith)

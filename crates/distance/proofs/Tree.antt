@@ -1,14 +1,11 @@
 -- The live count as a sum over a tree: each prefix has the longer ones below it, and below one that isn't live nothing is counted, as
--- disagreements only grow. The tree of few live prefixes can be computed.
+-- disagreements only grow.
 use mathlib.Core.Path.{_≡_, refl, sym, ap, ap₂, _∙_}
-use Prim.Native.Nat.{ℕ, zero, suc, _+_, _-_, _/_, _%_, _^_, _≤_, _<_, min}
-use native.Mathlib.Nat.{pow-suc}
+use Prim.Native.Nat.{ℕ, zero, suc, _+_, _-_, _≤_, min}
 use native.Mathlib.Numerals.{add-one}
 use native.Mathlib.Omega.{arith}
-use mathlib.Core.Bool.{Bool, true, false}
+use mathlib.Core.Bool.{true, false, cond}
 use mathlib.Core.List.{List, [], _∷_, _++_}
-use lib.Bits.{bitAnd, and-le-r}
-use lib.Count.{ones, onesIn, ones-step}
 use lib.Dec.{leb}
 use lib.ListN.{drop, replicate}
 use borrow.Author.Tests.{le-leb, lt-leb, leb-true, leb-false}
@@ -21,51 +18,14 @@ use Rattle.distance.specs.Steps.{stepCost}
 use Rattle.distance.proofs.Bits.{differences-append}
 use Rattle.distance.proofs.BitCounts.{countBits, countBits-same, count-by-bits}
 
--- ---- A parity that is computed
-
-ones-enough : (d n : ℕ) → n < 2 ^ d → onesIn d n ≡ ones n
-unfolding onesIn ones
-ones-enough zero n h = let none : n ≡ 0 = omega arith in rw none
-ones-enough (suc d) n h =
-    let half : n / 2 < 2 ^ d = omega (arith, pow-suc 2 d) in
-    sym (ones-step n ∙ ap (λ (x : ℕ). n % 2 + x) (sym (ones-enough d (n / 2) half)))
-
--- The 32 lowest bits are all that count under a mask of 32 bits.
-unfoldable pub parity32 : ℕ → ℕ → ℕ
-parity32 mask register = onesIn 32 (bitAnd register mask) % 2
-
-parity-computed : (mask register : ℕ) → mask < 2 ^ 32 → parity mask register ≡ parity32 mask register
-unfolding parity parity32
-parity-computed mask register h =
-    let masked = bitAnd register mask in
-    let small : masked < 2 ^ 32 = omega (arith, and-le-r register mask) in
-    ap (λ (n : ℕ). n % 2) (sym (ones-enough 32 masked small))
-
-first-small : firstMask < 2 ^ 32
-unfolding firstMask
-first-small = omega arith
-
-second-small : secondMask < 2 ^ 32
-unfolding secondMask
-second-small = omega arith
-
 -- ---- One step
 
--- The disagreements that a step adds, computed.
-unfoldable pub stepCost32 : List ℕ → ℕ → ℕ
-stepCost32 received register = differences (parity32 firstMask register ∷ parity32 secondMask register ∷ []) received
-
-stepCost-computed : (received : List ℕ) (register : ℕ) → stepCost received register ≡ stepCost32 received register
-unfolding stepCost stepCost32
-stepCost-computed received register = rw (parity-computed firstMask register first-small, parity-computed secondMask register second-small)
-
--- What is counted from a bit on, given what is counted after it: nothing where its prefix isn't live. The cases of `elim` are computed only
--- where they are taken, which prunes the tree.
+-- What is counted from a bit on, given what is counted after it: nothing where its prefix isn't live.
 unfoldable pub step : (ℕ → List ℕ → ℕ → ℕ) → ℕ → List ℕ → ℕ → ℕ → ℕ
 step after register received limit bit =
     let next = clocked register bit in
-    let cost = stepCost32 received next in
-    elim (leb cost limit) [ true ↦ after next (drop 2 received) (limit - cost) | false ↦ 0 ]
+    let cost = stepCost received next in
+    cond (leb cost limit) (after next (drop 2 received) (limit - cost)) 0
 
 -- ---- The tree
 
@@ -90,18 +50,15 @@ module _ (register : ℕ) (received : List ℕ) (limit bit : ℕ) where
   next = clocked register bit
 
   abbrev cost : ℕ
-  cost = stepCost32 received next
+  cost = stepCost received next
 
-  abbrev taken : (ℕ → List ℕ → ℕ → ℕ) → Bool → ℕ
-  taken after live = elim live [ true ↦ after next (drop 2 received) (limit - cost) | false ↦ 0 ]
-
-  step-live : (after : ℕ → List ℕ → ℕ → ℕ) → leb cost limit ≡ true → step after register received limit bit ≡ after next (drop 2 received) (limit - cost)
+  pub step-live : (after : ℕ → List ℕ → ℕ → ℕ) → leb cost limit ≡ true → step after register received limit bit ≡ after next (drop 2 received) (limit - cost)
   unfolding step
-  step-live after e = ap (taken after) e
+  step-live after e = rw e
 
-  step-dead : (after : ℕ → List ℕ → ℕ → ℕ) → leb cost limit ≡ false → step after register received limit bit ≡ 0
+  pub step-dead : (after : ℕ → List ℕ → ℕ → ℕ) → leb cost limit ≡ false → step after register received limit bit ≡ 0
   unfolding step
-  step-dead after e = ap (taken after) e
+  step-dead after e = rw e
 
   step-same : (f g : ℕ → List ℕ → ℕ → ℕ) → ((r : ℕ) (e : List ℕ) (l : ℕ) → f r e l ≡ g r e l)
       → step f register received limit bit ≡ step g register received limit bit
@@ -165,12 +122,11 @@ further : ℕ → List ℕ → List ℕ → ℕ
 further register received bits = differences (codedFrom register register bits) received
 
 further-first : (register : ℕ) (received : List ℕ) (bit : ℕ) (bits : List ℕ)
-    → further register received (bit ∷ bits) ≡ stepCost32 received (clocked register bit) + further (clocked register bit) (drop 2 received) bits
+    → further register received (bit ∷ bits) ≡ stepCost received (clocked register bit) + further (clocked register bit) (drop 2 received) bits
 unfolding further stepCost codedFrom
 further-first register received bit bits =
     let next = clocked register bit in
-    rw (← stepCost-computed received next)
-    (differences-append (parity firstMask next ∷ parity secondMask next ∷ []) (codedFrom next next bits) received)
+    differences-append (parity firstMask next ∷ parity secondMask next ∷ []) (codedFrom next next bits) received
 
 -- Those that begin with a bit are those from the step on.
 begin-counted : (m register : ℕ) (received : List ℕ) (limit bit : ℕ) (rest : List ℕ → List ℕ)
@@ -178,7 +134,7 @@ begin-counted : (m register : ℕ) (received : List ℕ) (limit bit : ℕ) (rest
     ≡ step (λ r e l. countBits m (λ bits. leb (further r e (rest bits)) l)) register received limit bit
 begin-counted m register received limit bit rest =
     let next = clocked register bit in
-    let cost = stepCost32 received next in
+    let cost = stepCost received next in
     let after : ℕ → List ℕ → ℕ → ℕ = λ r e l. countBits m (λ bits. leb (further r e (rest bits)) l) in
     by-test (leb cost limit)
     (λ live.

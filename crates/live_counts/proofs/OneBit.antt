@@ -3,16 +3,28 @@ use mathlib.Core.Path.{_≡_, refl, ap}
 use Prim.Native.Nat.{ℕ, zero, suc, _+_, _%_, _<_}
 use native.Mathlib.Omega.{arith}
 use mathlib.Core.List.{List, [], _∷_}
-use lib.ListN.{length, getD, replicate}
+use lib.ListN.{length, getD, replicate, length-replicate}
 use Rattle.basics.proofs.Choice.{equal-or-not}
 use Rattle.distance.specs.Prefixes.{differences}
-use Rattle.distance.proofs.Bits.{AllBits, summed, summed-same, alike, not-alike, differences-zero}
+use Rattle.distance.proofs.Bits.{AllBits, bits-zeros, summed, summed-same, alike, not-alike, differences-zero}
 
 -- So many bits: a 1 at an index, and zeros.
 unfoldable pub oneAt : ℕ → ℕ → List ℕ
 oneAt zero index = []
 oneAt (suc n) zero = 1 ∷ replicate n 0
 oneAt (suc n) (suc index) = 0 ∷ oneAt n index
+
+pub length-oneAt : (n index : ℕ) → length (oneAt n index) ≡ n
+unfolding oneAt
+length-oneAt zero index = refl
+length-oneAt (suc n) zero = ap suc (length-replicate n 0)
+length-oneAt (suc n) (suc index) = ap suc (length-oneAt n index)
+
+pub bits-oneAt : (n index : ℕ) → AllBits (oneAt n index)
+unfolding oneAt AllBits
+bits-oneAt zero index = tt
+bits-oneAt (suc n) zero = (omega arith, bits-zeros n)
+bits-oneAt (suc n) (suc index) = (omega arith, bits-oneAt n index)
 
 -- Two lists of n bits differ at an index, and nowhere else.
 pub record ApartAt (n : ℕ) (xs ys : List ℕ) : Type 0 where

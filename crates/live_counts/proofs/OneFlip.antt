@@ -5,31 +5,31 @@ use Prim.Native.Nat.{ℕ, _≤_, _<_}
 use native.Mathlib.Omega.{arith}
 use mathlib.Core.Bool.{Bool, true, cond}
 use mathlib.Core.List.{List}
-use lib.Count.{onesIn}
 use lib.Dec.{eqb, leb}
 use lib.ListN.{length, getD}
 use borrow.Author.Tests.{eq-eqb, ne-eqb, eqb-true, leb-true}
 use Rattle.basics.proofs.Choice.{equal-or-not}
 use Rattle.basics.proofs.Tables.{below-at}
-use Rattle.convolution.specs.Code.{clocked, firstMask, secondMask, codedBits}
+use Rattle.convolution.specs.Code.{firstMask, secondMask, codedBits}
 use Rattle.convolution.proofs.CodeLaws.{length-codedBits}
 use Rattle.distance.specs.Prefixes.{differences, liveCount}
 use Rattle.distance.proofs.Bits.{AllBits}
 use Rattle.distance.proofs.PrefixLaws.{bits-codedBits}
 use Rattle.distance.proofs.Recentred.{liveCount-around}
-use Rattle.distance.proofs.Tree.{parity32, stepCost32, step, tree, liveCount-tree}
-use Rattle.live_counts.proofs.OneBit.{oneAt, ApartAt, one-apart}
+use Rattle.trellis.proofs.Running.{aheadResponse, onwardResponse}
+use Rattle.live_counts.proofs.CountedTree.{beyond, countedTree, liveCount-counted}
+use Rattle.live_counts.proofs.OneBit.{oneAt, length-oneAt, bits-oneAt, ApartAt, one-apart}
 
 -- ---- Computed
 
 -- The live count around the zero word with the bit at an index flipped: 135 for index 96, else at most 134.
 unfoldable countFits : ℕ → Bool
 countFits index =
-    let live = tree 81 50 0 (oneAt 162 index) 2 in
+    let live = countedTree onwardResponse 81 50 0 (oneAt 162 index) 2 in
     cond (eqb index 96) (eqb live 135) (leb live 134)
 
 counts-computed : (index : ℕ) → index < 162 → countFits index ≡ true
-unfolding countFits oneAt tree step stepCost32 parity32 onesIn clocked firstMask secondMask differences
+unfolding countFits oneAt countedTree beyond aheadResponse firstMask secondMask
 counts-computed = below-at countFits 162 refl
 
 -- ---- For every word
@@ -43,13 +43,13 @@ module _ (word : ℕ) (received : List ℕ) (are-bits : AllBits received) (long 
   index = flipped .index
 
   abbrev live : ℕ
-  live = tree 81 50 0 (oneAt 162 index) 2
+  live = countedTree onwardResponse 81 50 0 (oneAt 162 index) 2
 
   live-tree : liveCount received 2 ≡ live
   live-tree =
       liveCount-around word 2 received are-bits long
       ∙ ap (λ (bits : List ℕ). liveCount bits 2) (flipped .sum)
-      ∙ liveCount-tree (oneAt 162 index) 2
+      ∙ liveCount-counted (oneAt 162 index) 2 (bits-oneAt 162 index) (length-oneAt 162 index)
 
   abbrev chosen : Bool → Bool
   chosen t = cond t (eqb live 135) (leb live 134)

@@ -70,13 +70,18 @@ weight-counted running state (suc (suc bit) ∷ bits) small are-bits = absurd (o
 digit-dropped : (first second rest : ℕ) → first < 64 → second < 64 → (paired first second + 4_096 * rest) / 4_096 ≡ rest
 digit-dropped first second rest h k = omega arith
 
-digit-weight : (first second rest : ℕ) → first < 64 → second < 64 → zeroWeight (paired first second + 4_096 * rest) ≡ first % 2 + second % 2
-digit-weight first second rest h k =
-    let whole = paired first second + 4_096 * rest in
-    let one : whole % 2 ≡ first % 2 = omega arith in
-    let next : whole / 64 ≡ second + 64 * rest = omega arith in
-    let other : (second + 64 * rest) % 2 ≡ second % 2 = omega arith in
-    rw (one, next, other)
+-- The first count's lowest bit, and the second's.
+digit-first : (first second rest : ℕ) → (paired first second + 4_096 * rest) % 2 ≡ first % 2
+digit-first first second rest = omega arith
+
+digit-second : (first second rest : ℕ) → first < 64 → (paired first second + 4_096 * rest) / 64 % 2 ≡ second % 2
+digit-second first second rest h =
+    let next : (paired first second + 4_096 * rest) / 64 ≡ second + 64 * rest = omega arith in
+    rw next (omega arith)
+
+-- So with a bit that is added to both.
+lowest-added : (bit m n : ℕ) → m % 2 ≡ n % 2 → (bit + m) % 2 ≡ (bit + n) % 2
+lowest-added bit m n e = omega arith
 
 -- Where neither count has one more, both coded bits are the same.
 none-more : (first second : ℕ) → (0 + first) % 2 + (0 + second) % 2 ≡ first % 2 + second % 2
@@ -187,15 +192,30 @@ module _ (state : ℕ) (h : state < 2 ^ 31) where
       onward-dropped
       ∙ sym (ahead-enough 30 (older firstMask / 2) (older secondMask / 2) state (omega (arith, older-first)) (omega (arith, older-second)))
 
-  onward-weight : zeroWeight (onwardCounts state) ≡ first % 2 + second % 2
+  onward-first : onwardCounts state % 2 ≡ first % 2
   unfolding ahead
-  onward-weight = digit-weight first second _ (meets-below state (older firstMask) h) (meets-below state (older secondMask) h)
+  onward-first = digit-first first second _
 
-  onward-parity : (bit : ℕ) → bit < 2 → registerWeight (state * 2 + bit) ≡ (bit + first) % 2 + (bit + second) % 2
-  unfolding registerWeight parity
-  onward-parity bit b =
+  onward-second : onwardCounts state / 64 % 2 ≡ second % 2
+  unfolding ahead
+  onward-second = digit-second first second _ (meets-below state (older firstMask) h)
+
+  -- The coded bits of a further bit: the new bit meets the masks' lowest, which are 1.
+  pub onward-first-coded : (bit : ℕ) → bit < 2 → parity firstMask (state * 2 + bit) ≡ (bit + onwardCounts state) % 2
+  unfolding parity
+  onward-first-coded bit b =
       let newest : min bit 1 ≡ bit = omega arith in
-      rw (meets-longer firstMask state bit b, meets-longer secondMask state bit b, first-odd, second-odd, newest)
+      rw (meets-longer firstMask state bit b, first-odd, newest) (sym (lowest-added bit (onwardCounts state) first onward-first))
+
+  pub onward-second-coded : (bit : ℕ) → bit < 2 → parity secondMask (state * 2 + bit) ≡ (bit + onwardCounts state / 64) % 2
+  unfolding parity
+  onward-second-coded bit b =
+      let newest : min bit 1 ≡ bit = omega arith in
+      rw (meets-longer secondMask state bit b, second-odd, newest) (sym (lowest-added bit (onwardCounts state / 64) second onward-second))
+
+  onward-weight : (bit : ℕ) → bit < 2 → registerWeight (state * 2 + bit) ≡ (bit + onwardCounts state) % 2 + (bit + onwardCounts state / 64) % 2
+  unfolding registerWeight
+  onward-weight bit b = rw (onward-first-coded bit b, onward-second-coded bit b)
 
 onward-none : onwardCounts 0 ≡ 0
 unfolding ahead ones firstMask secondMask
@@ -206,10 +226,8 @@ onward-running =
     record {
       none-yet = onward-none;
       below = λ state bit h b. omega arith;
-      zero-weight =
-          λ state h. onward-parity state h 0 (omega arith) ∙ none-more (first state h) (second state h) ∙ sym (onward-weight state h);
-      one-weight =
-          λ state h. onward-parity state h 1 (omega arith) ∙ both-other (first state h) (second state h) ∙ ap (λ (n : ℕ). 2 - n) (sym (onward-weight state h));
+      zero-weight = λ state h. onward-weight state h 0 (omega arith) ∙ none-more (onwardCounts state) (onwardCounts state / 64);
+      one-weight = λ state h. onward-weight state h 1 (omega arith) ∙ both-other (onwardCounts state) (onwardCounts state / 64);
       zero-next =
           λ state h. ahead-low 31 _ _ (state * 2 + 0) older-first older-second ∙ ahead-zero 31 _ _ state ∙ sym (onward-rest state h);
       one-next =
@@ -288,20 +306,30 @@ module _ (state : ℕ) (h : state < 2 ^ 31) where
   backward-rest : backwardCounts state / 4_096 ≡ behind 31 (state / 2)
   backward-rest = backward-dropped ∙ sym (behind-enough 30 (state / 2) (omega arith))
 
-  backward-weight : zeroWeight (backwardCounts state) ≡ first-met % 2 + second-met % 2
+  backward-first : backwardCounts state % 2 ≡ first-met % 2
   unfolding behind
-  backward-weight = digit-weight first-met second-met _ (meets-below state firstMask h) (meets-below state secondMask h)
+  backward-first = digit-first first-met second-met _
+
+  backward-second : backwardCounts state / 64 % 2 ≡ second-met % 2
+  unfolding behind
+  backward-second = digit-second first-met second-met _ (meets-below state firstMask h)
+
+  backward-zero : registerWeight (0 * 2 ^ 31 + state) ≡ zeroWeight (backwardCounts state)
+  unfolding registerWeight parity
+  backward-zero = let none : 0 * 2 ^ 31 + state ≡ state = omega arith in rw (none, backward-first, backward-second)
 
   -- The masks' highest bits are 1.
-  backward-one : registerWeight (1 * 2 ^ 31 + state) ≡ (1 + first-met) % 2 + (1 + second-met) % 2
+  backward-one : registerWeight (1 * 2 ^ 31 + state) ≡ (1 + backwardCounts state) % 2 + (1 + backwardCounts state / 64) % 2
   unfolding registerWeight parity firstMask secondMask
   backward-one =
       let turned : 1 * 2 ^ 31 + state ≡ state + 2 ^ 31 = omega arith in
-      rw (turned, meets-higher 31 state firstMask h, meets-higher 31 state secondMask h)
-
-  backward-zero : registerWeight (0 * 2 ^ 31 + state) ≡ first-met % 2 + second-met % 2
-  unfolding registerWeight parity
-  backward-zero = let none : 0 * 2 ^ 31 + state ≡ state = omega arith in rw none
+      rw (
+        turned,
+        meets-higher 31 state firstMask h,
+        meets-higher 31 state secondMask h,
+        lowest-added 1 (backwardCounts state) first-met backward-first,
+        lowest-added 1 (backwardCounts state / 64) second-met backward-second,
+      )
 
   backward-next : behind 31 (state / 2 + 1 * 2 ^ 30) ≡ behind 31 (state / 2) + backwardResponse
   backward-next = behind-higher 30 31 (state / 2) (omega arith) (omega arith)
@@ -315,10 +343,8 @@ backward-running =
     record {
       none-yet = backward-none;
       below = λ state bit h b. omega arith;
-      zero-weight = λ state h. backward-zero state h ∙ sym (backward-weight state h);
-      one-weight =
-          λ state h.
-          backward-one state h ∙ both-other (first-met state h) (second-met state h) ∙ ap (λ (n : ℕ). 2 - n) (sym (backward-weight state h));
+      zero-weight = backward-zero;
+      one-weight = λ state h. backward-one state h ∙ both-other (backwardCounts state) (backwardCounts state / 64);
       zero-next =
           λ state h. let same : state / 2 + 0 * 2 ^ 30 ≡ state / 2 = omega arith in ap backwardCounts same ∙ sym (backward-rest state h);
       one-next = λ state h. backward-next state h ∙ ap (λ (n : ℕ). n + backwardResponse) (sym (backward-rest state h));

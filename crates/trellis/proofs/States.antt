@@ -29,11 +29,11 @@ unlike-zero x h =
     (λ none. alike x 0 none ∙ sym none)
     (λ other. not-alike x 0 other ∙ omega arith)
 
-clocked-state : (register bit : ℕ) → bit < 2 → clocked register bit ≡ register % 2 ^ 31 * 2 + bit
+pub clocked-state : (register bit : ℕ) → bit < 2 → clocked register bit ≡ register % 2 ^ 31 * 2 + bit
 unfolding clocked
 clocked-state register bit h = omega arith
 
-next-state : (register bit : ℕ) → bit < 2 → clocked register bit % 2 ^ 31 ≡ (register % 2 ^ 31 * 2 + bit) % 2 ^ 31
+pub next-state : (register bit : ℕ) → bit < 2 → clocked register bit % 2 ^ 31 ≡ (register % 2 ^ 31 * 2 + bit) % 2 ^ 31
 next-state register bit h = ap (λ (n : ℕ). n % 2 ^ 31) (clocked-state register bit h)
 
 -- A path weighs as many as its coded bits differ from zeros in.

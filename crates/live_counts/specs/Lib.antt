@@ -1,0 +1,2 @@
+-- `CleanCounts`: the live count of a word's own coded bits.
+pub mod CleanCounts
