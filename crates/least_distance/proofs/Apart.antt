@@ -88,5 +88,5 @@ nearest-two =
     ∙ weight-counted onward-running 0 (clockedBits 0x546C3) (omega arith) (bits-clocked 0x546C3)
     ∙ rw (onward-running .none-yet) weight-computed
 
-pub least-distance : LeastDistance 28
-least-distance = record { apart = apart; one = 0x546C3; another = 0; in-50-bits = (omega arith, omega arith); exactly = nearest-two }
+pub least-distance : LeastDistance 28 0x546C3 0
+least-distance = record { apart = apart; in-50-bits = (omega arith, omega arith); exactly = nearest-two }

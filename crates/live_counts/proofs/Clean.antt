@@ -1,9 +1,9 @@
--- The live counts around a word whose own coded bits were received: those of the zero word, whose trees the checker computes. With flips, at
--- most those at a limit that is as much greater.
+-- The live counts around a word whose own coded bits were received: those of the zero word, whose trees the checker computes. With flips there
+-- are at most as many as at a limit that is greater by as many.
 use mathlib.Core.Path.{_≡_, refl, sym, ap, _∙_}
-use Prim.Native.Nat.{ℕ, _+_, _≤_, _<_}
+use Prim.Native.Nat.{ℕ, suc, _+_, _≤_, _<_}
 use native.Mathlib.Omega.{arith}
-use mathlib.Core.Bool.{true}
+use mathlib.Core.Bool.{Bool, true}
 use mathlib.Core.List.{List}
 use lib.Dec.{leb}
 use lib.ListN.{length, getD}
@@ -34,12 +34,24 @@ clean-counts word limit h =
     ∙ sym (getD-tabulate 11 (countedTree onwardResponse 81 50 0 zeroBits) limit (omega arith))
     ∙ ap (λ (counts : List ℕ). getD counts limit 0) trees-computed
 
--- With the limit and the flips together fewer than a number, the live count is no more than the clean counts at the limits below that number.
-pub flipped-most : (received : List ℕ) (word limit together most : ℕ) → length received ≡ 162
-    → limit + wordDisagreements received word < together → together ≤ 11 → every-below (λ at. leb (cleanCount at) most) together ≡ true
-    → liveCount received limit ≤ most
-flipped-most received word limit together most long fewer h all =
-    let flips = differences received (codedBits word) in
-    let within : limit + flips < together = omega (arith, word-disagreements received word, differences-sym received (codedBits word)) in
-    let at-most = leb-true (cleanCount (limit + flips)) most (below-at (λ at. leb (cleanCount at) most) together all (limit + flips) within) in
-    omega (arith, liveCount-flipped word received long limit, clean-counts word (limit + flips) (omega arith), at-most)
+-- They grow with the limit.
+grows : ℕ → Bool
+grows top = every-below (λ at. leb (cleanCount at) (cleanCount top)) (suc top)
+
+growing : (top : ℕ) → top < 11 → grows top ≡ true
+unfolding grows cleanCount
+growing = below-at grows 11 refl
+
+pub clean-grow : (at top : ℕ) → at ≤ top → top ≤ 10 → cleanCount at ≤ cleanCount top
+unfolding grows
+clean-grow at top h k =
+    leb-true (cleanCount at) (cleanCount top) (below-at (λ at. leb (cleanCount at) (cleanCount top)) (suc top) (growing top (omega arith)) at (omega arith))
+
+-- With flips, at most as many are live as without at a limit that is greater by as many.
+pub flipped-most : (received : List ℕ) (word limit : ℕ) → length received ≡ 162 → limit + wordDisagreements received word ≤ 10
+    → liveCount received limit ≤ cleanCount (limit + wordDisagreements received word)
+flipped-most received word limit long h =
+    let flips : wordDisagreements received word ≡ differences received (codedBits word) =
+    word-disagreements received word ∙ differences-sym (codedBits word) received in
+    rw flips
+    (rw (clean-counts word (limit + differences received (codedBits word)) (omega arith)) at (liveCount-flipped word received long limit))

@@ -21,7 +21,7 @@ use Rattle.repair.proofs.BoundLaws.{no-bad-bound}
 
 -- ---- Answers that differ
 
-refused-not-word : (f : Refusal) (n : Nearest) → RepairAnswer.Refused f ≡ RepairAnswer.Word n → ⊥
+pub refused-not-word : (f : Refusal) (n : Nearest) → RepairAnswer.Refused f ≡ RepairAnswer.Word n → ⊥
 refused-not-word f n e = let z : _≡_ {A = ℕ} 0 1 = cc in omega arith
 
 word-same : (m n : Nearest) → RepairAnswer.Word m ≡ RepairAnswer.Word n → m ≡ n
@@ -129,7 +129,7 @@ module _ (frame : List ℕ) (limit budget : ℕ) where
       let close = is-margin received limit (n .word) only (n .margin) (is .its-margin) in
       rw (nearest-only received (n .word) only, few, close, ← is .its-disagreements, ← is .live-count, ← is .wrong-sync)
 
-  word-of : (n : Nearest) → searched frame limit budget ≡ RepairAnswer.Word n → (live ≤ budget) × IsNearest frame limit n
+  pub word-of : (n : Nearest) → searched frame limit budget ≡ RepairAnswer.Word n → (live ≤ budget) × IsNearest frame limit n
   word-of n =
       by-case (λ a. a ≡ RepairAnswer.Word n → (live ≤ budget) × IsNearest frame limit n)
       (λ over e. absurd (refused-not-word _ n e))
@@ -163,7 +163,7 @@ module _ (frame : List ℕ) (limit budget : ℕ) where
 
   -- ---- Words that share the fewest disagreements
 
-  shared-of : repairNumbers (searched frame limit budget) .number ≡ sharedFewest → (live ≤ budget) × Shared received limit
+  pub shared-of : repairNumbers (searched frame limit budget) .number ≡ sharedFewest → (live ≤ budget) × Shared received limit
   unfolding repairNumbers
   shared-of =
       by-case (λ a. repairNumbers a .number ≡ sharedFewest → (live ≤ budget) × Shared received limit)

@@ -76,7 +76,7 @@ module _ (frame : List ℕ) (limit budget : ℕ) where
       repaired-bound long (omega arith) ∙ ap (λ (p : ℕ). RepairAnswer.Refused (refusal badBound p)) e
 
   -- What holds of the answer in each case holds of it.
-  by-check : (P : RepairAnswer → Type 0)
+  pub by-check : (P : RepairAnswer → Type 0)
       → ((length frame ≡ 162 → ⊥) → P (RepairAnswer.Refused (refusal wrongLength 0)))
       → (length frame ≡ 162 → 12 < limit → P (RepairAnswer.Refused (refusal badBound 0)))
       → (length frame ≡ 162 → BadBudget → P (RepairAnswer.Refused (refusal badBound 1)))

@@ -1,8 +1,7 @@
--- Flipped data bits: counted in frame order they are the sent word's disagreements in S order; the frames of two words differ in six data bits
--- or more; and what follows of flips within the limit, two at most among them, and of more, over the least number of data bits in which
--- frames differ.
+-- Flipped data bits: counted in frame order they are the sent word's disagreements in S order; the frames of two words differ in 28 data bits
+-- or more; and what follows of flips within the limit, of more, and of words other than the sent one.
 use mathlib.Core.Path.{_≡_, refl, sym, ap, ap₂, _∙_}
-use mathlib.Core.Logic.{_↔_}
+use mathlib.Core.Logic.{⊎-elim}
 use Prim.Native.Nat.{ℕ, _+_, _-_, _^_, _≤_, _<_}
 use native.Mathlib.Omega.{arith}
 use mathlib.Core.Bool.{not}
@@ -16,19 +15,24 @@ use Rattle.convolution.specs.Code.{codedBits}
 use Rattle.convolution.proofs.CodeLaws.{length-codedBits}
 use Rattle.interleaver.specs.Places.{placeOf, indexAt}
 use Rattle.interleaver.proofs.PlaceLaws.{placeOf-below, indexAt-below, indexAt-placeOf, placeOf-indexAt}
+use Rattle.refusal.specs.Refusals.{refusal, sharedFewest}
 use Rattle.frame.specs.Symbols.{frameOf, RightSymbols, dataAt, receivedBits}
 use Rattle.frame.proofs.SymbolLaws.{length-receivedBits, getD-receivedBits, received-frameOf}
 use Rattle.distance.specs.Prefixes.{differences, wordDisagreements, liveCount}
-use Rattle.distance.specs.Nearest.{OnlyNearest, IsMargin}
+use Rattle.distance.specs.Nearest.{OnlyNearest, OtherWithin, NoOtherWithin, IsMargin}
 use Rattle.distance.proofs.NearestLaws.{margin-to}
 use Rattle.distance.proofs.Bits.{differences-sym, differences-counted}
 use Rattle.distance.proofs.PrefixLaws.{word-disagreements, disagreements-together}
-use Rattle.distance.proofs.ZeroWord.{flipped-most, six-apart}
-use Rattle.repair.specs.Answer.{nearestWith, frameRepaired}
-use Rattle.repair.specs.Demand.{Bounds, IsNearest, NoneWithin}
-use Rattle.repair.specs.Flips.{flippedAt, flips, givenBack, TwoFlipsRepaired, FramesApart, noWordGiven, FlipsLaw, ThreeFlipsRefused, WrongWordFlips}
+use Rattle.live_counts.specs.CleanCounts.{cleanCount}
+use Rattle.live_counts.proofs.Clean.{clean-grow, flipped-most}
+use Rattle.least_distance.proofs.Apart.{least-distance}
+use Rattle.repair.specs.Answer.{nearestWith, frameRepaired, repairNumbers}
+use Rattle.repair.specs.Demand.{Bounds, IsNearest, NoneWithin, Shared}
+use Rattle.repair.specs.Flips.{flippedAt, flips, givenBack, FramesApart, FramesLeast, FlipsRepaired, TwoFlipsRepaired, FourFlipsRepaired, noWordGiven, FlipsLaw, ThreeFlipsRefused, NeverShared, MarginLeft, WrongWordFlips}
+use Rattle.repair.specs.declared.Nearest.{Nearest}
 use Rattle.repair.specs.declared.RepairAnswer.{RepairAnswer}
-use Rattle.repair.proofs.AnswerLaws.{demanded}
+use Rattle.repair.proofs.AnswerLaws.{refused-not-word, number-same, word-of, shared-of, demanded}
+use Rattle.repair.proofs.CheckLaws.{by-check}
 
 module _ (word : ℕ) (frame : List ℕ) where
   abbrev received : List ℕ
@@ -61,8 +65,16 @@ flips-frameOf v w =
     ∙ ap (λ (bits : List ℕ). wordDisagreements bits v) (received-frameOf w)
     ∙ word-disagreements (codedBits w) v
 
-pub frames-six-apart : FramesApart 6
-frames-six-apart v w h k other = omega (arith, flips-frameOf v w, six-apart v w h k other)
+pub frames-apart : FramesApart 28
+frames-apart v w h k other = omega (arith, flips-frameOf v w, least-distance .apart v w h k other)
+
+pub frames-least : FramesLeast 28 0x546C3 0
+frames-least =
+    record {
+      apart = frames-apart;
+      in-50-bits = least-distance .in-50-bits;
+      exactly = flips-frameOf 0x546C3 0 ∙ least-distance .exactly;
+    }
 
 -- Where the frames of two words differ, a received frame differs from one of them.
 flips-together : (v w : ℕ) (frame : List ℕ) → flips v (frameOf w) ≤ flips v frame + flips w frame
@@ -75,18 +87,21 @@ flips-together v w frame =
       flips-disagreements w frame,
     )
 
+-- So no two words are within a limit of a received frame.
+pub one-within : (v w limit : ℕ) (frame : List ℕ) → limit ≤ 12 → v < 2 ^ 50 → w < 2 ^ 50 → (v ≡ w → ⊥)
+    → wordDisagreements (receivedBits frame) v ≤ limit → limit < wordDisagreements (receivedBits frame) w
+one-within v w limit frame to-12 h k other near =
+    omega (arith, frames-apart v w h k other, flips-together v w frame, flips-disagreements v frame, flips-disagreements w frame)
+
 -- ---- Flips within the limit
 
--- Together with the limit they are fewer than the data bits in which frames differ.
-module _ (least : ℕ) (apart : FramesApart least) (word : ℕ) (frame : List ℕ) (limit : ℕ) (h : word < 2 ^ 50) (few : flips word frame ≤ limit)
-    (fewer : flips word frame + limit < least) where
+module _ (word : ℕ) (frame : List ℕ) (limit : ℕ) (h : word < 2 ^ 50) (few : flips word frame ≤ limit) (to-12 : limit ≤ 12) where
   same : flips word frame ≡ wordDisagreements (receivedBits frame) word
   same = flips-disagreements word frame
 
   -- Any other word differs from the sent one in so many data bits that it isn't within the limit of what was received.
   others-far : (other : ℕ) → other < 2 ^ 50 → (other ≡ word → ⊥) → limit < wordDisagreements (receivedBits frame) other
-  others-far other k different =
-      omega (arith, apart other word k h different, flips-together other word frame, flips-disagreements other frame)
+  others-far other k different = one-within word other limit frame to-12 h k (λ e. different (sym e)) (omega (arith, same))
 
   others-more : OnlyNearest (receivedBits frame) word
   others-more = (h, λ other k different. omega (arith, others-far other k different, same))
@@ -110,20 +125,33 @@ module _ (least : ℕ) (apart : FramesApart least) (word : ℕ) (frame : List �
         its-margin = margin-left;
       }
 
-  -- The sent word is given back exactly where the budget is enough.
-  pub sent-repaired : (budget : ℕ) → RightSymbols frame → Bounds limit budget
-      → ((frameRepaired frame limit budget ≡ RepairAnswer.Word (givenBack word frame limit)) ↔ (liveCount (receivedBits frame) limit ≤ budget))
-  sent-repaired budget right bounds =
-      let told = demanded frame limit budget right bounds .answered (givenBack word frame limit) in
-      ((λ e. told .0 e .0), λ enough. told .1 (enough, given-back-is))
+-- The sent word is given back exactly where the budget is enough.
+pub flips-repaired : (frame : List ℕ) (limit budget : ℕ) → FlipsRepaired frame limit budget (frameRepaired frame limit budget)
+flips-repaired frame limit budget right bounds word h few =
+    let told = demanded frame limit budget right bounds .answered (givenBack word frame limit) in
+    ((λ e. told .0 e .0), λ enough. told .1 (enough, given-back-is word frame limit h few (bounds .limit-to-12)))
 
--- Two at most, at limit 2: a budget from 569 on is enough.
+-- Flips that are at most a number, at a limit: a clean frame's count at both together is enough.
+pub flips-live : (frame : List ℕ) (word limit most : ℕ) → flips word frame ≤ most → limit + most ≤ 10 → liveCount (receivedBits frame) limit ≤ cleanCount (limit + most)
+flips-live frame word limit most few to-10 =
+    let same = flips-disagreements word frame in
+    let count = flipped-most (receivedBits frame) word limit (length-receivedBits frame) (omega (arith, same)) in
+    omega (arith, count, clean-grow (limit + wordDisagreements (receivedBits frame) word) (limit + most) (omega (arith, same)) to-10)
+
+-- Two at most, at limit 2: 569 is enough.
 pub two-flips-repaired : (frame : List ℕ) (limit budget : ℕ) → TwoFlipsRepaired frame limit budget (frameRepaired frame limit budget)
+unfolding cleanCount
 two-flips-repaired frame limit budget two enough right word h few =
-    let live = flipped-most (receivedBits frame) word 2 (length-receivedBits frame) (omega (arith, flips-disagreements word frame)) in
     let bounds : Bounds 2 16_000 = record { limit-to-12 = omega arith; budget-from-1 = omega arith; budget-to-65536 = omega arith } in
     rw (two, enough)
-    (sent-repaired 6 frames-six-apart word frame 2 h few (omega arith) 16_000 right bounds .1 (omega (arith, live)))
+    (flips-repaired frame 2 16_000 right bounds word h few .1 (omega (arith, flips-live frame word 2 2 few (omega arith))))
+
+-- Four at most, at limit 4.
+pub four-flips-repaired : (frame : List ℕ) (limit budget : ℕ) → FourFlipsRepaired frame limit budget (frameRepaired frame limit budget)
+unfolding cleanCount
+four-flips-repaired frame limit budget four enough bounds right word h few =
+    let within : Bounds 4 budget = rw four at bounds in
+    rw four (flips-repaired frame 4 budget right within word h few .1 (omega (arith, flips-live frame word 4 4 few (omega arith))))
 
 -- ---- More flips than the limit, and other words
 
@@ -148,10 +176,10 @@ flips-refused least apart frame limit budget right bounds word h more fewer =
     (λ same. rw same (omega (arith, flips-disagreements word frame)))
     (λ different. omega (arith, apart other word k h different, flips-together other word frame, flips-disagreements other frame)))
 
--- The law's case 6, 3, 2.
+-- The law's case 28, 3, 2.
 pub three-flips-refused : (frame : List ℕ) (limit budget : ℕ) → ThreeFlipsRefused frame limit budget (frameRepaired frame limit budget)
 three-flips-refused frame limit budget two bounds right word h three =
-    flips-refused 6 frames-six-apart frame limit budget right bounds word h (omega arith) (omega arith)
+    flips-refused 28 frames-apart frame limit budget right bounds word h (omega arith) (omega arith)
 
 module _ (least : ℕ) (apart : FramesApart least) (frame : List ℕ) (limit budget : ℕ) where
   pub wrong-word-flips : WrongWordFlips least frame limit budget (frameRepaired frame limit budget)
@@ -171,3 +199,54 @@ module _ (least : ℕ) (apart : FramesApart least) (frame : List ℕ) (limit bud
           is .its-disagreements,
         ),
       )
+
+-- ---- One word within the limit, if any
+
+-- Two that share the fewest disagreements would both be within the limit.
+pub never-shared : (frame : List ℕ) (limit budget : ℕ) → NeverShared (frameRepaired frame limit budget)
+unfolding repairNumbers
+never-shared frame limit budget place =
+    by-check frame limit budget (λ a. a ≡ RepairAnswer.Refused (refusal sharedFewest place) → ⊥)
+    (λ other e. absurd (omega (arith, number-same _ _ e)))
+    (λ long more e. absurd (omega (arith, number-same _ _ e)))
+    (λ long bad e. absurd (omega (arith, number-same _ _ e)))
+    (λ long bounds first e. absurd (omega (arith, number-same _ _ e)))
+    (λ right bounds e. one-only bounds (shared-of frame limit budget (number-same _ _ e) .1))
+  where
+    one-only : Bounds limit budget → Shared (receivedBits frame) limit → ⊥
+    one-only bounds words =
+        let (one-known, one-least) = words .one-fewest in
+        let (another-known, another-least) = words .another-fewest in
+        omega (
+          arith,
+          one-within (words .one) (words .another) limit frame (bounds .limit-to-12) one-known another-known (words .different) (words .within-limit),
+          another-least (words .one) one-known,
+          words .within-limit,
+        )
+
+-- A next nearest word is never within the limit.
+pub margin-limit : (frame : List ℕ) (limit budget : ℕ) → MarginLeft limit (frameRepaired frame limit budget)
+margin-limit frame limit budget nearest =
+    by-check frame limit budget (λ a. a ≡ RepairAnswer.Word nearest → nearest .disagreements + nearest .margin ≡ limit + 1)
+    (λ other e. absurd (refused-not-word _ nearest e))
+    (λ long more e. absurd (refused-not-word _ nearest e))
+    (λ long bad e. absurd (refused-not-word _ nearest e))
+    (λ long bounds first e. absurd (refused-not-word _ nearest e))
+    (λ right bounds e. left bounds (word-of frame limit budget nearest e .1))
+  where
+    left : Bounds limit budget → IsNearest frame limit nearest → nearest .disagreements + nearest .margin ≡ limit + 1
+    left bounds is = ⊎-elim within beyond (is .its-margin .exactly)
+      where
+        within : OtherWithin (receivedBits frame) limit (nearest .word) (nearest .margin) → nearest .disagreements + nearest .margin ≡ limit + 1
+        within next =
+            absurd
+            (omega (
+              arith,
+              one-within (nearest .word) (next .other) limit frame (bounds .limit-to-12) (is .only-nearest .0) (next .in-50-bits)
+                  (λ e. next .different (sym e))
+                  (omega (arith, is .its-disagreements, is .within-limit)),
+              next .within-limit,
+            ))
+
+        beyond : NoOtherWithin (receivedBits frame) limit (nearest .word) (nearest .margin) → nearest .disagreements + nearest .margin ≡ limit + 1
+        beyond none = rw (is .its-disagreements) (none .next-after-limit)

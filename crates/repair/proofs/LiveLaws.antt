@@ -13,10 +13,10 @@ use Rattle.interleaver.specs.Places.{placeOf}
 use Rattle.frame.specs.Symbols.{RightSymbols, receivedBits}
 use Rattle.frame.proofs.SymbolLaws.{length-receivedBits}
 use Rattle.distance.specs.Prefixes.{differences, liveCount}
-use Rattle.distance.specs.CleanCounts.{cleanCount}
 use Rattle.distance.proofs.Bits.{AllBits, bits-each, differences-zero}
 use Rattle.distance.proofs.PrefixLaws.{word-disagreements}
-use Rattle.distance.proofs.ZeroWord.{clean-counts}
+use Rattle.live_counts.specs.CleanCounts.{cleanCount}
+use Rattle.live_counts.proofs.Clean.{clean-counts}
 use Rattle.live_counts.proofs.OneFlip.{one-flip-there, one-flip-elsewhere}
 use Rattle.repair.specs.Answer.{frameRepaired}
 use Rattle.repair.specs.Demand.{Bounds}
@@ -25,7 +25,7 @@ use Rattle.repair.specs.LiveCounts.{worstIndex, OneFlipCount, CountsByFl
 use Rattle.repair.specs.declared.Nearest.{Nearest}
 use Rattle.repair.specs.declared.RepairAnswer.{RepairAnswer}
 use Rattle.repair.proofs.AnswerLaws.{demanded}
-use Rattle.repair.proofs.FlipLaws.{received-there, sent-there, flips-disagreements, frames-six-apart, sent-repaired}
+use Rattle.repair.proofs.FlipLaws.{received-there, sent-there, flips-disagreements, flips-repaired, flips-live}
 use Rattle.repair.proofs.FoundLaws.{received-bits}
 
 -- The flips are the places in which the coded bits differ from what was received.
@@ -34,7 +34,7 @@ flips-differences word frame = flips-disagreements word frame ∙ word-disagreem
 
 -- ---- No flip
 
-clean-frame-count : (word : ℕ) (frame : List ℕ) (limit : ℕ) → flips word frame ≡ 0 → limit ≤ 5 → liveCount (receivedBits frame) limit ≡ cleanCount limit
+clean-frame-count : (word : ℕ) (frame : List ℕ) (limit : ℕ) → flips word frame ≡ 0 → limit ≤ 10 → liveCount (receivedBits frame) limit ≡ cleanCount limit
 clean-frame-count word frame limit none h =
     let size : length (codedBits word) ≡ length (receivedBits frame) = length-codedBits word ∙ sym (length-receivedBits frame) in
     let same : codedBits word ≡ receivedBits frame =
@@ -82,7 +82,10 @@ module _ (word : ℕ) (frame : List ℕ) (right : RightSymbols frame) (one : fli
       }
 
 pub counts-by-flips : CountsByFlips
-counts-by-flips frame right word h = ((λ none limit. clean-frame-count word frame limit none), one-flip-count word frame right)
+counts-by-flips frame right word h = (
+  (λ none limit. clean-frame-count word frame limit none),
+  (one-flip-count word frame right, λ limit. flips-live frame word limit (flips word frame) (omega arith)),
+)
 
 -- ---- What is answered
 
@@ -92,9 +95,9 @@ module _ (frame : List ℕ) (limit budget : ℕ) (right : RightSymbols frame) (b
   carried nearest e = demanded frame limit budget right bounds .answered nearest .0 e .1 .live-count
 
 pub clean-repaired : (frame : List ℕ) (limit budget : ℕ) → CleanRepaired frame limit budget (frameRepaired frame limit budget)
-clean-repaired frame limit budget to-5 bounds right word h none =
-    let live = clean-frame-count word frame limit none to-5 in
-    let back = sent-repaired 6 frames-six-apart word frame limit h (omega arith) (omega arith) budget right bounds in
+clean-repaired frame limit budget to-10 bounds right word h none =
+    let live = clean-frame-count word frame limit none to-10 in
+    let back = flips-repaired frame limit budget right bounds word h (omega arith) in
     record {
       counted = λ nearest e. carried frame limit budget right bounds nearest e ∙ live;
       given-back = ((λ e. omega (arith, back .0 e, live)), λ enough. back .1 (omega (arith, live)));
@@ -105,7 +108,7 @@ one-flip-repaired frame limit budget two bounds right word h one =
     let within : Bounds 2 budget =
     record { limit-to-12 = omega arith; budget-from-1 = bounds .budget-from-1; budget-to-65536 = bounds .budget-to-65536 } in
     let count = one-flip-count word frame right one in
-    let back = sent-repaired 6 frames-six-apart word frame 2 h (omega arith) (omega arith) budget right within in
+    let back = flips-repaired frame 2 budget right within word h (omega arith) in
     rw two
     (record {
       counted = λ nearest e. rw (carried frame 2 budget right within nearest e) count;

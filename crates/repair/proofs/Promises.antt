@@ -4,12 +4,12 @@ use Prim.Native.Nat.{ℕ}
 use mathlib.Core.List.{List}
 use Rattle.repair.specs.Answer.{frameRepaired, repairNumbers}
 use Rattle.repair.specs.Demand.{AsChecked, AsDemanded}
-use Rattle.repair.specs.Flips.{TwoFlipsRepaired, ThreeFlipsRefused, WrongWordFlips}
+use Rattle.repair.specs.Flips.{FlipsRepaired, TwoFlipsRepaired, FourFlipsRepaired, FlipsRefused, ThreeFlipsRefused, NeverShared, MarginLeft, WrongWordFlips}
 use Rattle.repair.specs.LiveCounts.{CleanRepaired, OneFlipRepaired}
 use Rattle.repair.specs.declared.RepairAnswer.{RepairAnswer}
 use Rattle.repair.proofs.AnswerLaws.{demanded}
 use Rattle.repair.proofs.CheckLaws.{checked}
-use Rattle.repair.proofs.FlipLaws.{frames-six-apart, two-flips-repaired, three-flips-refused, wrong-word-flips}
+use Rattle.repair.proofs.FlipLaws.{frames-apart, flips-repaired, two-flips-repaired, four-flips-repaired, flips-refused, three-flips-refused, wrong-word-flips, never-shared, margin-limit}
 use Rattle.repair.proofs.LiveLaws.{clean-repaired, one-flip-repaired}
 
 abbrev pub RepairPromised : List ℕ → ℕ → ℕ → RepairAnswer → Type 0
@@ -20,31 +20,15 @@ RepairPromised frame limit budget answer =
     × (AsDemanded frame limit budget answer
     × (TwoFlipsRepaired frame limit budget answer
     × (ThreeFlipsRefused frame limit budget answer
-    × (WrongWordFlips 6 frame limit budget answer × (CleanRepaired frame limit budget answer × OneFlipRepaired frame limit budget answer)))))))
+    × (WrongWordFlips 28 frame limit budget answer
+    × (CleanRepaired frame limit budget answer
+    × (OneFlipRepaired frame limit budget answer
+    × (FlipsRepaired frame limit budget answer
+    × (FourFlipsRepaired frame limit budget answer
+    × (FlipsRefused 28 frame limit budget answer × (NeverShared answer × MarginLeft limit answer))))))))))))
 
 pub promised : (frame : List ℕ) (limit budget : ℕ) (answer : RepairAnswer) → frameRepaired frame limit budget ≡ answer → RepairPromised frame limit budget answer
 promised frame limit budget answer e = subst (RepairPromised frame limit budget) e of-defined
   where
     of-defined : RepairPromised frame limit budget (frameRepaired frame limit budget)
-    of-defined = (
-      refl,
-      (
-        refl,
-        (
-          checked frame limit budget,
-          (
-            demanded frame limit budget,
-            (
-              two-flips-repaired frame limit budget,
-              (
-                three-flips-refused frame limit budget,
-                (
-                  wrong-word-flips 6 frames-six-apart frame limit budget,
-                  (clean-repaired frame limit budget, one-flip-repaired frame limit budget),
-                ),
-              ),
-            ),
-          ),
-        ),
-      ),
-    )
+    of-defined = (refl, (refl, (checked frame limit budget, (demanded frame limit budget, (two-flips-repaired frame limit budget, (three-flips-refused frame limit budget, (wrong-word-flips 28 frames-apart frame limit budget, (clean-repaired frame limit budget, (one-flip-repaired frame limit budget, (flips-repaired frame limit budget, (four-flips-repaired frame limit budget, (flips-refused 28 frames-apart frame limit budget, (never-shared frame limit budget, margin-limit frame limit budget)))))))))))))

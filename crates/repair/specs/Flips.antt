@@ -1,12 +1,13 @@
--- Flipped data bits: how many there are; that two at most are repaired (demand 3); that three at limit 2 give no word (02, L14), with the
--- law behind it; and how many a word other than the sent one takes.
+-- Flipped data bits: how many there are; in how many the frames of two words differ; that flips within the limit are repaired (demand 3 says
+-- it of two), and more are not turned into a word (02, L14 says it of three); and how many a word other than the sent one takes.
 use mathlib.Core.Path.{_≡_}
+use mathlib.Core.Logic.{_↔_}
 use Prim.Native.Nat.{ℕ, _+_, _-_, _^_, _≤_, _<_}
 use mathlib.Core.Bool.{Bool, not, cond}
 use mathlib.Core.List.{List}
 use lib.Dec.{eqb, ltb}
 use Rattle.basics.specs.Below.{countBelow}
-use Rattle.refusal.specs.Refusals.{refusal, overBudget, noneWithinLimit}
+use Rattle.refusal.specs.Refusals.{refusal, overBudget, noneWithinLimit, sharedFewest}
 use Rattle.frame.specs.Symbols.{frameOf, RightSymbols, dataAt, receivedBits}
 use Rattle.distance.specs.Prefixes.{liveCount}
 use Rattle.repair.specs.Answer.{nearestWith, frameRepaired}
@@ -27,7 +28,28 @@ flips word frame = countBelow 162 (flippedAt word frame)
 unfoldable pub givenBack : ℕ → List ℕ → ℕ → Nearest
 givenBack word frame limit = nearestWith frame limit word (flips word frame) (limit + 1 - flips word frame)
 
--- ---- Two at most
+-- ---- The frames of two words
+
+-- "two different words always differ in at least six data bits of their frames" (02, L14), here with any number in place of six: so many are
+-- flipped at least where one word is sent and the frame of another is received.
+abbrev pub FramesApart : ℕ → Type 0
+FramesApart least = (sent other : ℕ) → sent < 2 ^ 50 → other < 2 ^ 50 → (sent ≡ other → ⊥) → least ≤ flips sent (frameOf other)
+
+-- The least such number: two words' frames differ in exactly so many. It is 28, of the words 0x546C3 and 0: `frames-least` of
+-- proofs/FlipLaws.antt.
+pub record FramesLeast (least one another : ℕ) : Type 0 where
+  pub apart : FramesApart least
+  pub in-50-bits : (one < 2 ^ 50) × (another < 2 ^ 50)
+  pub exactly : flips one (frameOf another) ≡ least
+
+-- ---- Flips within the limit
+
+-- Whichever word was sent, whichever of its data bits were flipped, and whatever became of the sync bits: the word is given back, with the
+-- number of flipped bits as its disagreements, exactly where the budget is the live count or more.
+abbrev pub FlipsRepaired : List ℕ → ℕ → ℕ → RepairAnswer → Type 0
+FlipsRepaired frame limit budget answer =
+    RightSymbols frame → Bounds limit budget → (word : ℕ) → word < 2 ^ 50 → flips word frame ≤ limit
+    → ((answer ≡ RepairAnswer.Word (givenBack word frame limit)) ↔ (liveCount (receivedBits frame) limit ≤ budget))
 
 -- "Whichever 50-bit word was sent, whichever of its frame's 162 data bits were flipped, two at most, and whatever became of the sync
 -- bits, limit 2 with a budget of 16,000 gives that word back, with the number of flipped bits as its disagreements."
@@ -36,13 +58,13 @@ TwoFlipsRepaired frame limit budget answer =
     limit ≡ 2 → budget ≡ 16_000 → RightSymbols frame → (word : ℕ) → word < 2 ^ 50 → flips word frame ≤ 2
     → answer ≡ RepairAnswer.Word (givenBack word frame 2)
 
--- ---- More than the limit
+-- The same of four at most: limit 4 with a budget of 17,851 or more, so with the largest, 65,536.
+abbrev pub FourFlipsRepaired : List ℕ → ℕ → ℕ → RepairAnswer → Type 0
+FourFlipsRepaired frame limit budget answer =
+    limit ≡ 4 → 17_851 ≤ budget → Bounds limit budget → RightSymbols frame → (word : ℕ) → word < 2 ^ 50 → flips word frame ≤ 4
+    → answer ≡ RepairAnswer.Word (givenBack word frame 4)
 
--- "two different words always differ in at least six data bits of their frames" (02, L14), here with any number in place of six: so many are
--- flipped at least where one word is sent and the frame of another is received. Of six it is proved: `frames-six-apart` of
--- proofs/FlipLaws.antt.
-abbrev pub FramesApart : ℕ → Type 0
-FramesApart least = (sent other : ℕ) → sent < 2 ^ 50 → other < 2 ^ 50 → (sent ≡ other → ⊥) → least ≤ flips sent (frameOf other)
+-- ---- More flips than the limit
 
 -- "never turned into any word: it is refused 17, or 16 where the live count is above the budget."
 unfoldable pub noWordGiven : List ℕ → ℕ → ℕ → RepairAnswer
@@ -56,7 +78,7 @@ FlipsRefused least frame limit budget answer =
     RightSymbols frame → Bounds limit budget → (word : ℕ) → word < 2 ^ 50 → limit < flips word frame → flips word frame + limit < least
     → answer ≡ noWordGiven frame limit budget
 
--- The law behind the sentence: so it is for any number of data bits in which frames differ at least.
+-- The law behind L14's sentence: so it is for any number of data bits in which frames differ at least.
 abbrev pub FlipsLaw : Type 0
 FlipsLaw =
     (least : ℕ) → FramesApart least → (frame : List ℕ) (limit budget : ℕ) → FlipsRefused least frame limit budget (frameRepaired frame limit budget)
@@ -68,11 +90,21 @@ ThreeFlipsRefused frame limit budget answer =
     limit ≡ 2 → Bounds limit budget → RightSymbols frame → (word : ℕ) → word < 2 ^ 50 → flips word frame ≡ 3
     → answer ≡ noWordGiven frame limit budget
 
+-- ---- One word within the limit, if any
+
+-- 18 is never given: not at any limit, not for any symbols.
+abbrev pub NeverShared : RepairAnswer → Type 0
+NeverShared answer = (place : ℕ) → answer ≡ RepairAnswer.Refused (refusal sharedFewest place) → ⊥
+
+-- The margin is always limit + 1 less the disagreements.
+abbrev pub MarginLeft : ℕ → RepairAnswer → Type 0
+MarginLeft limit answer = (nearest : Nearest) → answer ≡ RepairAnswer.Word nearest → nearest .disagreements + nearest .margin ≡ limit + 1
+
 -- ---- A word other than the sent one
 
 -- It is answered, at any limit and budget, only where more data bits were flipped than it has disagreements, and both together are at least
--- as many as frames differ in. With six that is at least four flips; and as disagreements are at most the limit, at limit 1 five and at
--- limit 0 six.
+-- as many as frames differ in. With 28, as disagreements are at most the limit, that is at least 28 less the limit: at limit 2 at least 26
+-- flips, at limit 12 at least 16.
 abbrev pub WrongWordFlips : ℕ → List ℕ → ℕ → ℕ → RepairAnswer → Type 0
 WrongWordFlips least frame limit budget answer =
     RightSymbols frame → Bounds limit budget → (nearest : Nearest) → answer ≡ RepairAnswer.Word nearest

@@ -2,13 +2,13 @@
 -- answered on them.
 use mathlib.Core.Path.{_≡_}
 use mathlib.Core.Logic.{_↔_}
-use Prim.Native.Nat.{ℕ, _-_, _*_, _^_, _≤_, _<_}
+use Prim.Native.Nat.{ℕ, _+_, _-_, _*_, _^_, _≤_, _<_}
 use mathlib.Core.Bool.{true}
 use mathlib.Core.List.{List}
 use Rattle.interleaver.specs.Places.{placeOf}
 use Rattle.frame.specs.Symbols.{RightSymbols, receivedBits}
 use Rattle.distance.specs.Prefixes.{liveCount}
-use Rattle.distance.specs.CleanCounts.{cleanCount}
+use Rattle.live_counts.specs.CleanCounts.{cleanCount}
 use Rattle.repair.specs.Demand.{Bounds}
 use Rattle.repair.specs.Flips.{flippedAt, flips, givenBack}
 use Rattle.repair.specs.declared.Nearest.{Nearest}
@@ -27,25 +27,27 @@ pub record OneFlipCount (word : ℕ) (frame : List ℕ) (live : ℕ) : Type 0 wh
   pub at-most : live ≤ 135
   pub reached : (live ≡ 135) ↔ (flippedAt word frame (placeOf worstIndex) ≡ true)
 
--- "a clean frame has live count 81 at limits 0 and 1 and exactly 131 at limit 2" is `cleanCount`, to limit 5. "Show it of the count as
--- defined, for every word": and whatever became of the sync bits.
+-- "a clean frame has live count 81 at limits 0 and 1 and exactly 131 at limit 2" is `cleanCount`, to limit 10. "Show it of the count as
+-- defined, for every word": and whatever became of the sync bits. With flips the count is at most that of a clean frame at a limit that is
+-- greater by as many.
 abbrev pub CountsByFlips : Type 0
 CountsByFlips =
     (frame : List ℕ) → RightSymbols frame → (word : ℕ) → word < 2 ^ 50
-    → (flips word frame ≡ 0 → (limit : ℕ) → limit ≤ 5 → liveCount (receivedBits frame) limit ≡ cleanCount limit)
-    × (flips word frame ≡ 1 → OneFlipCount word frame (liveCount (receivedBits frame) 2))
+    → (flips word frame ≡ 0 → (limit : ℕ) → limit ≤ 10 → liveCount (receivedBits frame) limit ≡ cleanCount limit)
+    × ((flips word frame ≡ 1 → OneFlipCount word frame (liveCount (receivedBits frame) 2))
+    × ((limit : ℕ) → limit + flips word frame ≤ 10 → liveCount (receivedBits frame) limit ≤ cleanCount (limit + flips word frame)))
 
 -- ---- What is answered
 
--- On a clean frame, at limits up to 5: an answer carries that count, and a budget of that count or more, and no other, gives the sent word
--- back.
+-- On a clean frame, at limits up to 10: an answer carries that count, and a budget of that count or more, and no other, gives the sent word
+-- back. At limit 10 no budget is so large.
 pub record CleanAnswered (word : ℕ) (frame : List ℕ) (limit budget : ℕ) (answer : RepairAnswer) : Type 0 where
   pub counted : (nearest : Nearest) → answer ≡ RepairAnswer.Word nearest → nearest .live ≡ cleanCount limit
   pub given-back : (answer ≡ RepairAnswer.Word (givenBack word frame limit)) ↔ (cleanCount limit ≤ budget)
 
 abbrev pub CleanRepaired : List ℕ → ℕ → ℕ → RepairAnswer → Type 0
 CleanRepaired frame limit budget answer =
-    limit ≤ 5 → Bounds limit budget → RightSymbols frame → (word : ℕ) → word < 2 ^ 50 → flips word frame ≡ 0
+    limit ≤ 10 → Bounds limit budget → RightSymbols frame → (word : ℕ) → word < 2 ^ 50 → flips word frame ≡ 0
     → CleanAnswered word frame limit budget answer
 
 -- On a frame with one flipped data bit, at limit 2: an answer carries such a count; a budget of the live count or more, and no other, gives

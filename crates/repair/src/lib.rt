@@ -8,7 +8,7 @@ mod search;
 ghost use mathlib.Core.Path.{_≡_};
 ghost use Rattle.repair.specs.Answer.{firstBadBound, frameRepaired, repairNumbers};
 ghost use Rattle.repair.specs.Demand.{AsChecked, AsDemanded};
-ghost use Rattle.repair.specs.Flips.{TwoFlipsRepaired, ThreeFlipsRefused, WrongWordFlips};
+ghost use Rattle.repair.specs.Flips.{FlipsRepaired, TwoFlipsRepaired, FourFlipsRepaired, FlipsRefused, ThreeFlipsRefused, NeverShared, MarginLeft, WrongWordFlips};
 ghost use Rattle.repair.specs.LiveCounts.{CleanRepaired, OneFlipRepaired};
 ghost use Rattle.repair.specs.Search.{answerOf};
 use refusal::BAD_BOUND;
@@ -92,9 +92,14 @@ pub fn repair(frame: &[u8], limit: u32, budget: u32) -> RepairAnswer
     ensures demanded { λ r. ⌜ AsDemanded (now (frame .entry)) limit budget r ⌝ }
     ensures two_flips { λ r. ⌜ TwoFlipsRepaired (now (frame .entry)) limit budget r ⌝ }
     ensures three_flips { λ r. ⌜ ThreeFlipsRefused (now (frame .entry)) limit budget r ⌝ }
-    ensures wrong_word { λ r. ⌜ WrongWordFlips 6 (now (frame .entry)) limit budget r ⌝ }
+    ensures wrong_word { λ r. ⌜ WrongWordFlips 28 (now (frame .entry)) limit budget r ⌝ }
     ensures clean { λ r. ⌜ CleanRepaired (now (frame .entry)) limit budget r ⌝ }
     ensures one_flip { λ r. ⌜ OneFlipRepaired (now (frame .entry)) limit budget r ⌝ }
+    ensures flips_repaired { λ r. ⌜ FlipsRepaired (now (frame .entry)) limit budget r ⌝ }
+    ensures four_flips { λ r. ⌜ FourFlipsRepaired (now (frame .entry)) limit budget r ⌝ }
+    ensures flips_refused { λ r. ⌜ FlipsRefused 28 (now (frame .entry)) limit budget r ⌝ }
+    ensures never_shared { λ r. ⌜ NeverShared r ⌝ }
+    ensures margin_left { λ r. ⌜ MarginLeft limit r ⌝ }
 {
     if frame.len() != 162 {
         return RepairAnswer::Refused(Refusal {

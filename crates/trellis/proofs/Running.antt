@@ -57,11 +57,17 @@ pub weight-counted : {steps : Steps} {counts : ℕ → ℕ} {response : ℕ} →
 unfolding AllBits weightOf countedWeight
 weight-counted running state [] small are-bits = refl
 weight-counted {steps} running state (zero ∷ bits) small are-bits =
-    rw (running .zero-weight state small, ← running .zero-next state small,
-      weight-counted running (steps .to state 0) bits (running .below state 0 small (omega arith)) (are-bits .1))
+    rw (
+      running .zero-weight state small,
+      ← running .zero-next state small,
+      weight-counted running (steps .to state 0) bits (running .below state 0 small (omega arith)) (are-bits .1),
+    )
 weight-counted {steps} running state (suc zero ∷ bits) small are-bits =
-    rw (running .one-weight state small, ← running .one-next state small,
-      weight-counted running (steps .to state 1) bits (running .below state 1 small (omega arith)) (are-bits .1))
+    rw (
+      running .one-weight state small,
+      ← running .one-next state small,
+      weight-counted running (steps .to state 1) bits (running .below state 1 small (omega arith)) (are-bits .1),
+    )
 weight-counted running state (suc (suc bit) ∷ bits) small are-bits = absurd (omega (arith, are-bits .0))
 
 -- ---- Digits

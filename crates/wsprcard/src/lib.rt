@@ -8,7 +8,7 @@ ghost use Rattle.frame.specs.Answer.{writeNumbers, wordWritten, messageWritten,
 ghost use Rattle.frame.specs.RoundTrip.{WordReadsBack, WordWritesBack, WordRefusedExactly, NoWordRefused, MessageReadsBack, MessageWritesBack, MessageRefusedExactly};
 ghost use Rattle.repair.specs.Answer.{frameRepaired, repairNumbers};
 ghost use Rattle.repair.specs.Demand.{AsChecked, AsDemanded};
-ghost use Rattle.repair.specs.Flips.{TwoFlipsRepaired, ThreeFlipsRefused, WrongWordFlips};
+ghost use Rattle.repair.specs.Flips.{FlipsRepaired, TwoFlipsRepaired, FourFlipsRepaired, FlipsRefused, ThreeFlipsRefused, NeverShared, MarginLeft, WrongWordFlips};
 ghost use Rattle.repair.specs.LiveCounts.{CleanRepaired, OneFlipRepaired};
 ghost use Rattle.telemetry.specs.Answer.{telemetryWritten, telemetryRead, telemetryNumbers, callsignAfterTelemetry, locatorAfterTelemetry};
 ghost use Rattle.telemetry.specs.RoundTrip.{TelemetryReadsBack, TelemetryWithinSteps, TelemetryWritesBack, TelemetryRefusedExactly};
@@ -262,9 +262,14 @@ pub extern "C" fn wspr_repair(frame: &[u8], limit: u32, budget: u32) -> WsprRepa
     ensures demanded { λ r. ⌜ AsDemanded (now (frame .entry)) limit budget (repairAnswerIn r) ⌝ }
     ensures two_flips { λ r. ⌜ TwoFlipsRepaired (now (frame .entry)) limit budget (repairAnswerIn r) ⌝ }
     ensures three_flips { λ r. ⌜ ThreeFlipsRefused (now (frame .entry)) limit budget (repairAnswerIn r) ⌝ }
-    ensures wrong_word { λ r. ⌜ WrongWordFlips 6 (now (frame .entry)) limit budget (repairAnswerIn r) ⌝ }
+    ensures wrong_word { λ r. ⌜ WrongWordFlips 28 (now (frame .entry)) limit budget (repairAnswerIn r) ⌝ }
     ensures clean { λ r. ⌜ CleanRepaired (now (frame .entry)) limit budget (repairAnswerIn r) ⌝ }
     ensures one_flip { λ r. ⌜ OneFlipRepaired (now (frame .entry)) limit budget (repairAnswerIn r) ⌝ }
+    ensures flips_repaired { λ r. ⌜ FlipsRepaired (now (frame .entry)) limit budget (repairAnswerIn r) ⌝ }
+    ensures four_flips { λ r. ⌜ FourFlipsRepaired (now (frame .entry)) limit budget (repairAnswerIn r) ⌝ }
+    ensures flips_refused { λ r. ⌜ FlipsRefused 28 (now (frame .entry)) limit budget (repairAnswerIn r) ⌝ }
+    ensures never_shared { λ r. ⌜ NeverShared (repairAnswerIn r) ⌝ }
+    ensures margin_left { λ r. ⌜ MarginLeft limit (repairAnswerIn r) ⌝ }
 {
     repaired_result(repair::repair(frame, limit, budget))
 }
