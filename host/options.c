@@ -12,10 +12,9 @@
 /* A wrong argument is shown up to this length. */
 #define SHOWN_LENGTH 40
 
-/* At the usual limit and budget repair gives back every word whose frame has at most two flipped data bits. */
-#define USUAL_LIMIT 2
-#define USUAL_BUDGET 16000
-#define LARGEST_BUDGET 65536
+/* At the usual limit and budget repair gives back every word whose frame has at most four flipped data bits. */
+#define USUAL_LIMIT 4
+#define USUAL_BUDGET 65536
 
 #define BIT(option) (1u << (option))
 
@@ -27,10 +26,10 @@ static const struct {
 } options[OPTIONS] = {
     [LIMIT] = {"--limit", true, USUAL_LIMIT,
                "  --limit N   the most disagreements that a repaired word may have,\n"
-               "              0 to 12; 2 unless given\n"},
+               "              0 to 12; 4 unless given\n"},
     [BUDGET] = {"--budget", true, USUAL_BUDGET,
                 "  --budget N  the largest live count that is searched through,\n"
-                "              1 to 65536; unless given 16000, and 65536 with a limit above 2\n"},
+                "              1 to 65536; 65536 unless given\n"},
     [WRITE] = {"--write", false, 0, "  --write     a report to its message\n"},
     [JSON] = {"--json", false, 0, "  --json      one JSON object a line instead of plain text\n"},
 };
@@ -49,15 +48,17 @@ static const struct {
 #define COUNTS_HELP \
     "\n" \
     "The live count of a clean frame, in which no data bit is flipped, by limit;\n" \
-    "proved up to limit 5:\n" \
+    "proved up to limit 10:\n" \
     "\n" \
     "  limit  0  1   2   3   4    5    6    7     8     9    10     11     12\n" \
     "  live  81 81 131 279 569 1573 3495 7611 17851 42557 97265 222823 514948\n" \
     "\n" \
     "A budget below the live count refuses even a clean frame (16): with a budget of\n" \
-    "16000 a clean frame is answered at limits up to 7, with 65536 at limits up to 9,\n" \
-    "and at limits 10 to 12 with none. So use limits up to 9. A frame with flipped\n" \
-    "data bits can have a lower or a higher live count.\n" \
+    "65536, the largest, a clean frame is answered at limits up to 9, and at limits\n" \
+    "10 to 12 with none. So use limits up to 9. A frame with flipped data bits can\n" \
+    "have a lower or a higher live count, but none above that of a clean frame at a\n" \
+    "limit that is greater by as many: so at limit 4 a budget of 17851 always gives\n" \
+    "the word of a frame with at most four flipped data bits back.\n" \
     "\n" \
     "At limit 2 the live count of a clean frame is 131, and that of a frame with one\n" \
     "flipped data bit at most 135, reached exactly where the data bit of symbol 105,\n" \
@@ -65,9 +66,12 @@ static const struct {
     "clean frame back, and one of 135 that of a frame with one flipped data bit, too.\n" \
     "This is proved for every word.\n" \
     "\n" \
-    "At limit 2 and budget 16000 a word comes back where at most two data bits of its\n" \
-    "frame were flipped, and no word is given where three were (17). A word that isn't\n" \
-    "the one that was sent takes at least four flipped data bits, at any limit.\n"
+    "The frames of two words differ in at least 28 data bits. So at limit 4 and\n" \
+    "budget 65536, as they are unless given, a word comes back where at most 4 data\n" \
+    "bits of its frame were flipped, and no word is given where 5 to 23 were (17, or\n" \
+    "16 where the live count is above the budget). A word that isn't the one that was\n" \
+    "sent takes at least 28 flipped data bits less the limit: 24 at limit 4, and 26\n" \
+    "at limit 2. This is proved for every word.\n"
 #define REPORT_HELP \
     "A report is channel, sub-square, metres, degrees, millivolts, knots and GPS,\n" \
     "as Q2 SK 12340 -15 4100 30 1. Its letters are capitals, and tabs may stand between\n" \
@@ -187,11 +191,8 @@ static bool read_value(const char *value, uint32_t *number)
     return value && read_number((span){(const uint8_t *)value, strlen(value)}, number);
 }
 
-/* From limit 8 on the usual budget refuses every clean frame, so that a larger limit alone has the largest budget. */
 static outcome read_options(char **arguments, call *c)
 {
-    bool given[OPTIONS] = {false};
-
     while (*arguments) {
         const char *argument = *arguments++, *value;
         unsigned option = find_option(c->command, argument, &value);
@@ -199,14 +200,11 @@ static outcome read_options(char **arguments, call *c)
         if (option == OPTIONS)
             return wrong(c->command, argument, " isn't an option of this command");
         c->option[option] = 1;
-        given[option] = true;
         if (options[option].takes_number && !value && *arguments)
             value = *arguments++;
         if (options[option].takes_number && !read_value(value, &c->option[option]))
             return wrong(c->command, options[option].name, " needs a number");
     }
-    if (!given[BUDGET] && c->option[LIMIT] > USUAL_LIMIT)
-        c->option[BUDGET] = LARGEST_BUDGET;
     return RUN;
 }
 

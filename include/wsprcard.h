@@ -140,31 +140,38 @@ wspr_message wspr_read_message(const uint8_t *frame, size_t frame_len, uint8_t *
  *   limit   0 to 12 data bits: the most disagreements that the word may have
  *   budget  1 to 65,536 prefixes: the largest live count that is gone through
  *
- * The live count of a clean frame, in which no data bit is flipped, by limit; proved up to limit 5:
+ * The live count of a clean frame, in which no data bit is flipped, by limit; proved up to limit 10:
  *
  *   limit  0  1   2   3   4     5     6     7      8      9     10      11      12
  *   live  81 81 131 279 569 1,573 3,495 7,611 17,851 42,557 97,265 222,823 514,948
  *
- * A budget below the live count refuses even a clean frame (16): with a budget of 16,000 a clean frame is answered at
- * limits up to 7, with 65,536 at limits up to 9, and at limits 10 to 12 with none. So use limits up to 9. A frame with
- * flipped data bits can have a lower or a higher live count.
+ * A budget below the live count refuses even a clean frame (16): with a budget of 65,536, the largest, a clean frame is
+ * answered at limits up to 9, and at limits 10 to 12 with none. So use limits up to 9. A frame with flipped data bits
+ * can have a lower or a higher live count, but none above that of a clean frame at a limit that is greater by as many:
+ * so at limit 4 a budget of 17,851 always gives the word of a frame with at most four flipped data bits back.
  *
  * At limit 2 the live count of a clean frame is 131, and that of a frame with one flipped data bit at most 135, reached
  * exactly where the data bit of symbol 105, counted from 0, is the flipped one. So a budget of 131 always gives the
  * word of a clean frame back, and one of 135 that of a frame with one flipped data bit, too. This is proved for every
  * word.
  *
- * The margin: every other word has at least so many more disagreements than the answer. Where another word is within
- * the limit, the next nearest has exactly so many more. Where none is, the next is taken to have limit + 1, so that the
- * margin is limit + 1 less the disagreements. It grows with the limit, and other words may be further away than that.
+ * The frames of two words differ in at least 28 data bits (proved). So whichever word was sent, and whichever of its
+ * frame's data bits were flipped:
  *
- * Refusals 1, 15, 7, 16, 17, 18, in that order. Sync bits never refuse a repair: the wrong ones are counted. Whichever
- * word was sent, and whichever of its frame's data bits were flipped, two at most, limit 2 and budget 16,000 give it
- * back, with the number of flipped bits as its disagreements and 3 less that number as its margin. With exactly three
- * flipped, limit 2 and a budget of 1 to 65,536 give no word: 17, or 16 where the live count is above the budget. At any
- * limit and budget a word other than the sent one takes more flipped bits than it has disagreements, and six or more of
- * both together: at least four, at limit 1 five and at limit 0 six. A repaired word need not be a message's:
- * wspr_unpack turns it into its message, or refuses. */
+ *   as many as the limit, or fewer: that word is given, with the number of flipped bits as its disagreements, where the
+ *     budget is the live count or more; so with two at most at limit 2 and budget 16,000, and with four at most at limit
+ *     4 and a budget of 17,851 or more
+ *   more than the limit, but flips and limit together fewer than 28: no word is given, but 17, or 16 where the live
+ *     count is above the budget
+ *   at any limit and budget, a word other than the sent one takes more flipped bits than it has disagreements, and 28
+ *     or more of both together: at limit 4 at least 24, at limit 2 at least 26
+ *
+ * The margin: every other word has at least so many more disagreements than the answer. Where no other word is within
+ * the limit, the next is taken to have limit + 1. As two words never are, the margin is always limit + 1 less the
+ * disagreements: it grows with the limit, and other words may be further away than that.
+ *
+ * Refusals 1, 15, 7, 16, 17, 18, in that order; 18 is never given. Sync bits never refuse a repair: the wrong ones are
+ * counted. A repaired word need not be a message's: wspr_unpack turns it into its message, or refuses. */
 wspr_repaired wspr_repair(const uint8_t *frame, size_t frame_len, uint32_t limit, uint32_t budget);
 
 /* The message of a telemetry report: writes its callsign and locator, returns its power. Each reading is rounded down

@@ -199,6 +199,13 @@ differences-grow [] more ys = omega arith
 differences-grow (x ∷ xs) more [] = omega arith
 differences-grow (x ∷ xs) more (y ∷ ys) = omega (arith, differences-grow xs more ys)
 
+-- What is longer than the first list doesn't count.
+pub differences-longer : (xs ys more : List ℕ) → length xs ≤ length ys → differences xs (ys ++ more) ≡ differences xs ys
+unfolding differences
+differences-longer [] ys more h = refl
+differences-longer (x ∷ xs) [] more h = absurd (omega arith)
+differences-longer (x ∷ xs) (y ∷ ys) more h = rw (differences-longer xs ys more (omega arith))
+
 -- Of two lists one after the other, the second meets what the first leaves.
 pub differences-append : (xs more ys : List ℕ) → differences (xs ++ more) ys ≡ differences xs ys + differences more (drop (length xs) ys)
 unfolding differences

@@ -1,21 +1,22 @@
 -- The live prefixes around a sent word depend on the flips alone: they are as many as those around the zero word with the same flips. And
--- with d flips those within a limit are at most those of the unflipped frame within the limit plus d.
+-- with d flips those within a limit are at most those of the unflipped frame within the limit plus d; and whatever was received, at most
+-- those within twice the limit.
 use mathlib.Core.Path.{_≡_, refl, sym, ap, _∙_}
-use Prim.Native.Nat.{ℕ, _+_, _-_, _/_, _^_, _≤_}
+use Prim.Native.Nat.{ℕ, _+_, _-_, _*_, _/_, _^_, _≤_}
 use native.Mathlib.Omega.{arith}
 use mathlib.Core.Bool.{Bool, true}
 use mathlib.Core.List.{List, _++_}
 use lib.Count.{ones}
 use lib.ListN.{length, drop, replicate, length-append, take-append-drop}
-use Rattle.basics.proofs.BelowLaws.{sum-same, sum-le, count-le}
+use Rattle.basics.proofs.BelowLaws.{sum-same, sum-le, count-le, least-below, least-reached}
 use Rattle.radix.specs.Numeral.{count, digitsOf}
 use Rattle.convolution.specs.Code.{bitsOf, clockedBits, clocked, firstMask, secondMask, parity, codedFrom, codedBits}
 use Rattle.convolution.proofs.CodeLaws.{length-bitsOf, length-codedFrom, length-codedBits}
 use Rattle.distance.specs.Prefixes.{freeOf, prefixBits, prefixesOf, differences, disagreements, isLive, liveOf, liveCount}
-use Rattle.distance.proofs.Bits.{AllBits, bits-append, bits-zeros, bits-bitsOf, summed, summed-append, summed-zeros, summed-unchanged, summed-twice, bits-summed, triangle, differences-summed}
+use Rattle.distance.proofs.Bits.{AllBits, bits-append, bits-zeros, bits-bitsOf, summed, summed-append, summed-zeros, summed-unchanged, summed-twice, bits-summed, triangle, differences-sym, differences-summed, differences-longer}
 use Rattle.distance.proofs.BitCounts.{countBits-same, count-by-bits, countBits-summed}
 use Rattle.distance.proofs.Linear.{codedFrom-sum}
-use Rattle.distance.proofs.PrefixLaws.{length-prefixBits, prefix-of-word, live-within, within-live, live-same, registerAfter, codedFrom-append, bits-codedFrom, bits-codedBits}
+use Rattle.distance.proofs.PrefixLaws.{length-prefixBits, prefix-of-word, prefix-of-number, live-within, within-live, live-same, registerAfter, codedFrom-append, bits-codedFrom, bits-codedBits}
 
 -- ---- Around a sent word
 
@@ -133,3 +134,50 @@ module _ (word : ℕ) (received : List ℕ) (long : length received ≡ 162) whe
   liveCount-flipped limit =
       sum-le _ (λ i. liveOf received limit (i + 1)) (λ i. liveOf (codedBits word) (limit + differences received (codedBits word)) (i + 1))
       (λ i h. liveOf-flipped limit (i + 1) (omega arith))
+
+-- ---- Any received bits
+
+-- Two prefixes of a length that are both live are within twice the limit of each other: so no more of that length are live than are around a
+-- word's own coded bits at twice the limit.
+module _ (received : List ℕ) (long : length received ≡ 162) (limit k : ℕ) (h : k ≤ 81) where
+  -- A word that begins with a prefix.
+  abbrev wordWith : ℕ → ℕ
+  wordWith number = number * 2 ^ (50 - k)
+
+  begins : (number : ℕ) → clockedBits (wordWith number) ≡ prefixBits k number ++ drop k (clockedBits (wordWith number))
+  begins number =
+      sym (take-append-drop k (clockedBits (wordWith number)))
+      ∙ ap (λ (xs : List ℕ). xs ++ drop k (clockedBits (wordWith number))) (sym (prefix-of-number k number h))
+
+  both-live : (m n : ℕ) → disagreements received (prefixBits k m) ≤ limit → disagreements received (prefixBits k n) ≤ limit
+      → disagreements (codedBits (wordWith n)) (prefixBits k m) ≤ limit + limit
+  unfolding disagreements codedBits
+  both-live m n near also =
+      let one = codedFrom 0 0 (prefixBits k m) in
+      let other = codedFrom 0 0 (prefixBits k n) in
+      let rest = drop k (clockedBits (wordWith n)) in
+      let later = codedFrom (registerAfter 0 (prefixBits k n)) (registerAfter 0 (prefixBits k n)) rest in
+      let one-size : length one ≡ 2 * k = length-codedFrom 0 0 (prefixBits k m) ∙ ap (λ (n : ℕ). 2 * n) (length-prefixBits k m) in
+      let other-size : length other ≡ 2 * k = length-codedFrom 0 0 (prefixBits k n) ∙ ap (λ (n : ℕ). 2 * n) (length-prefixBits k n) in
+      rw (begins n, codedFrom-append 0 0 (prefixBits k n) rest, differences-longer one other later (omega arith))
+      (omega (arith, triangle one received other (omega arith), differences-sym received other))
+
+  liveOf-any : liveOf received limit k ≤ liveOf zeroBits (limit + limit) k
+  unfolding liveOf
+  liveOf-any =
+      let of : ℕ → ℕ = λ number. disagreements received (prefixBits k number) in
+      let (nearest, (there, least)) = least-reached (prefixesOf k - 1) of in
+      let word = wordWith nearest in
+      rw (← liveOf-clean word (limit + limit) k h)
+      (count-le (prefixesOf k) (λ number. isLive received limit (prefixBits k number))
+      (λ number. isLive (codedBits word) (limit + limit) (prefixBits k number))
+      (λ number below live.
+      let near = within-live received limit (prefixBits k number) live in
+      live-within (codedBits word) (limit + limit) (prefixBits k number)
+      (both-live number nearest near (omega (arith, least, near, least-below (prefixesOf k - 1) of number (omega arith))))))
+
+pub liveCount-any : (received : List ℕ) → length received ≡ 162 → (limit : ℕ) → liveCount received limit ≤ liveCount zeroBits (limit + limit)
+unfolding liveCount
+liveCount-any received long limit =
+    sum-le _ (λ i. liveOf received limit (i + 1)) (λ i. liveOf zeroBits (limit + limit) (i + 1))
+    (λ i h. liveOf-any received long limit (i + 1) (omega arith))

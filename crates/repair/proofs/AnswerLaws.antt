@@ -96,7 +96,7 @@ module _ (frame : List ℕ) (limit budget : ℕ) where
 
   -- ---- Out of budget
 
-  over-of : repairNumbers (searched frame limit budget) .number ≡ overBudget → budget < live
+  pub over-of : repairNumbers (searched frame limit budget) .number ≡ overBudget → budget < live
   unfolding repairNumbers
   over-of =
       by-case (λ a. repairNumbers a .number ≡ overBudget → budget < live)

@@ -24,7 +24,7 @@ use Rattle.distance.proofs.NearestLaws.{margin-to}
 use Rattle.distance.proofs.Bits.{differences-sym, differences-counted}
 use Rattle.distance.proofs.PrefixLaws.{word-disagreements, disagreements-together}
 use Rattle.live_counts.specs.CleanCounts.{cleanCount}
-use Rattle.live_counts.proofs.Clean.{clean-grow, flipped-most}
+use Rattle.live_counts.proofs.Clean.{any-most}
 use Rattle.least_distance.proofs.Apart.{least-distance}
 use Rattle.repair.specs.Answer.{nearestWith, frameRepaired, repairNumbers}
 use Rattle.repair.specs.Demand.{Bounds, IsNearest, NoneWithin, Shared}
@@ -131,27 +131,22 @@ flips-repaired frame limit budget right bounds word h few =
     let told = demanded frame limit budget right bounds .answered (givenBack word frame limit) in
     ((λ e. told .0 e .0), λ enough. told .1 (enough, given-back-is word frame limit h few (bounds .limit-to-12)))
 
--- Flips that are at most a number, at a limit: a clean frame's count at both together is enough.
-pub flips-live : (frame : List ℕ) (word limit most : ℕ) → flips word frame ≤ most → limit + most ≤ 10 → liveCount (receivedBits frame) limit ≤ cleanCount (limit + most)
-flips-live frame word limit most few to-10 =
-    let same = flips-disagreements word frame in
-    let count = flipped-most (receivedBits frame) word limit (length-receivedBits frame) (omega (arith, same)) in
-    omega (arith, count, clean-grow (limit + wordDisagreements (receivedBits frame) word) (limit + most) (omega (arith, same)) to-10)
-
 -- Two at most, at limit 2: 569 is enough.
 pub two-flips-repaired : (frame : List ℕ) (limit budget : ℕ) → TwoFlipsRepaired frame limit budget (frameRepaired frame limit budget)
 unfolding cleanCount
 two-flips-repaired frame limit budget two enough right word h few =
     let bounds : Bounds 2 16_000 = record { limit-to-12 = omega arith; budget-from-1 = omega arith; budget-to-65536 = omega arith } in
     rw (two, enough)
-    (flips-repaired frame 2 16_000 right bounds word h few .1 (omega (arith, flips-live frame word 2 2 few (omega arith))))
+    (flips-repaired frame 2 16_000 right bounds word h few .1 (omega (arith, any-most (receivedBits frame) 2 (length-receivedBits frame) (omega arith))))
 
 -- Four at most, at limit 4.
 pub four-flips-repaired : (frame : List ℕ) (limit budget : ℕ) → FourFlipsRepaired frame limit budget (frameRepaired frame limit budget)
 unfolding cleanCount
 four-flips-repaired frame limit budget four enough bounds right word h few =
     let within : Bounds 4 budget = rw four at bounds in
-    rw four (flips-repaired frame 4 budget right within word h few .1 (omega (arith, flips-live frame word 4 4 few (omega arith))))
+    rw four
+    (flips-repaired frame 4 budget right within word h few .1
+    (omega (arith, any-most (receivedBits frame) 4 (length-receivedBits frame) (omega arith))))
 
 -- ---- More flips than the limit, and other words
 

@@ -1,6 +1,6 @@
--- The live counts of frames without a flipped data bit and with one, and what repair answers on them.
+-- The live counts of frames without a flipped data bit, with one, with more, and of any frame; and what repair answers on them.
 use mathlib.Core.Path.{_≡_, refl, sym, ap, _∙_}
-use Prim.Native.Nat.{ℕ, _≤_}
+use Prim.Native.Nat.{ℕ, _+_, _≤_}
 use native.Mathlib.Omega.{arith}
 use mathlib.Core.Bool.{true, false}
 use mathlib.Core.List.{List}
@@ -10,22 +10,24 @@ use Rattle.basics.proofs.Choice.{by-test}
 use Rattle.convolution.specs.Code.{codedBits}
 use Rattle.convolution.proofs.CodeLaws.{length-codedBits}
 use Rattle.interleaver.specs.Places.{placeOf}
+use Rattle.refusal.specs.Refusals.{refusal, overBudget}
 use Rattle.frame.specs.Symbols.{RightSymbols, receivedBits}
 use Rattle.frame.proofs.SymbolLaws.{length-receivedBits}
 use Rattle.distance.specs.Prefixes.{differences, liveCount}
 use Rattle.distance.proofs.Bits.{AllBits, bits-each, differences-zero}
 use Rattle.distance.proofs.PrefixLaws.{word-disagreements}
 use Rattle.live_counts.specs.CleanCounts.{cleanCount}
-use Rattle.live_counts.proofs.Clean.{clean-counts}
+use Rattle.live_counts.proofs.Clean.{clean-counts, flipped-most, any-most}
 use Rattle.live_counts.proofs.OneFlip.{one-flip-there, one-flip-elsewhere}
-use Rattle.repair.specs.Answer.{frameRepaired}
+use Rattle.repair.specs.Answer.{frameRepaired, repairNumbers}
 use Rattle.repair.specs.Demand.{Bounds}
 use Rattle.repair.specs.Flips.{flippedAt, flips}
-use Rattle.repair.specs.LiveCounts.{worstIndex, OneFlipCount, CountsByFlips, CleanRepaired, OneFlipRepaired}
+use Rattle.repair.specs.LiveCounts.{worstIndex, OneFlipCount, CountsByFlips, CountsOfAny, CleanRepaired, OneFlipRepaired, NeverOverBudget}
 use Rattle.repair.specs.declared.Nearest.{Nearest}
 use Rattle.repair.specs.declared.RepairAnswer.{RepairAnswer}
-use Rattle.repair.proofs.AnswerLaws.{demanded}
-use Rattle.repair.proofs.FlipLaws.{received-there, sent-there, flips-disagreements, flips-repaired, flips-live}
+use Rattle.repair.proofs.AnswerLaws.{number-same, over-of, demanded}
+use Rattle.repair.proofs.CheckLaws.{by-check}
+use Rattle.repair.proofs.FlipLaws.{received-there, sent-there, flips-disagreements, flips-repaired}
 use Rattle.repair.proofs.FoundLaws.{received-bits}
 
 -- The flips are the places in which the coded bits differ from what was received.
@@ -81,10 +83,20 @@ module _ (word : ℕ) (frame : List ℕ) (right : RightSymbols frame) (one : fli
         );
       }
 
+-- ---- More flips, and any frame
+
+flips-count : (word : ℕ) (frame : List ℕ) (limit : ℕ) → limit + flips word frame ≤ 10 → liveCount (receivedBits frame) limit ≤ cleanCount (limit + flips word frame)
+flips-count word frame limit h =
+    let same = flips-disagreements word frame in
+    rw same (flipped-most (receivedBits frame) word limit (length-receivedBits frame) (omega arith))
+
+pub counts-of-any : CountsOfAny
+counts-of-any frame limit h = any-most (receivedBits frame) limit (length-receivedBits frame) h
+
 pub counts-by-flips : CountsByFlips
 counts-by-flips frame right word h = (
   (λ none limit. clean-frame-count word frame limit none),
-  (one-flip-count word frame right, λ limit. flips-live frame word limit (flips word frame) (omega arith)),
+  (one-flip-count word frame right, flips-count word frame),
 )
 
 -- ---- What is answered
@@ -115,3 +127,13 @@ one-flip-repaired frame limit budget two bounds right word h one =
       given-back = back;
       always-given-back = λ enough. back .1 (omega (arith, count .at-most));
     })
+
+pub never-over-budget : (frame : List ℕ) (limit budget : ℕ) → NeverOverBudget limit budget (frameRepaired frame limit budget)
+unfolding repairNumbers
+never-over-budget frame limit budget to-4 enough place =
+    by-check frame limit budget (λ a. a ≡ RepairAnswer.Refused (refusal overBudget place) → ⊥)
+    (λ other e. absurd (omega (arith, number-same _ _ e)))
+    (λ long more e. absurd (omega (arith, number-same _ _ e)))
+    (λ long bad e. absurd (omega (arith, number-same _ _ e)))
+    (λ long bounds first e. absurd (omega (arith, number-same _ _ e)))
+    (λ right bounds e. absurd (omega (arith, over-of frame limit budget (number-same _ _ e), counts-of-any frame limit (omega arith))))

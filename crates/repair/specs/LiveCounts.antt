@@ -1,10 +1,11 @@
--- How long a repair may take (02, L8): the live counts of frames without a flipped data bit and with one, "for every word", and what is
--- answered on them.
+-- How long a repair may take: the live counts of frames without a flipped data bit and with one, "for every word" (02, L8), with more, and of
+-- any frame; and what is answered on them.
 use mathlib.Core.Path.{_≡_}
 use mathlib.Core.Logic.{_↔_}
 use Prim.Native.Nat.{ℕ, _+_, _-_, _*_, _^_, _≤_, _<_}
 use mathlib.Core.Bool.{true}
 use mathlib.Core.List.{List}
+use Rattle.refusal.specs.Refusals.{refusal, overBudget}
 use Rattle.interleaver.specs.Places.{placeOf}
 use Rattle.frame.specs.Symbols.{RightSymbols, receivedBits}
 use Rattle.distance.specs.Prefixes.{liveCount}
@@ -37,6 +38,10 @@ CountsByFlips =
     × ((flips word frame ≡ 1 → OneFlipCount word frame (liveCount (receivedBits frame) 2))
     × ((limit : ℕ) → limit + flips word frame ≤ 10 → liveCount (receivedBits frame) limit ≤ cleanCount (limit + flips word frame)))
 
+-- Whatever was received, noise too: at most as many as on a clean frame at twice the limit.
+abbrev pub CountsOfAny : Type 0
+CountsOfAny = (frame : List ℕ) (limit : ℕ) → limit ≤ 5 → liveCount (receivedBits frame) limit ≤ cleanCount (limit + limit)
+
 -- ---- What is answered
 
 -- On a clean frame, at limits up to 10: an answer carries that count, and a budget of that count or more, and no other, gives the sent word
@@ -61,3 +66,8 @@ abbrev pub OneFlipRepaired : List ℕ → ℕ → ℕ → RepairAnswer → Type 
 OneFlipRepaired frame limit budget answer =
     limit ≡ 2 → Bounds limit budget → RightSymbols frame → (word : ℕ) → word < 2 ^ 50 → flips word frame ≡ 1
     → OneFlipAnswered word frame budget answer
+
+-- On any symbols, at limits up to 4: with a budget of that count, 569 at limit 2 and 17,851 at limit 4, 16 is never given.
+abbrev pub NeverOverBudget : ℕ → ℕ → RepairAnswer → Type 0
+NeverOverBudget limit budget answer =
+    limit ≤ 4 → cleanCount (limit + limit) ≤ budget → (place : ℕ) → answer ≡ RepairAnswer.Refused (refusal overBudget place) → ⊥

@@ -9,7 +9,7 @@ ghost use mathlib.Core.Path.{_≡_};
 ghost use Rattle.repair.specs.Answer.{firstBadBound, frameRepaired, repairNumbers};
 ghost use Rattle.repair.specs.Demand.{AsChecked, AsDemanded};
 ghost use Rattle.repair.specs.Flips.{FlipsRepaired, TwoFlipsRepaired, FourFlipsRepaired, FlipsRefused, ThreeFlipsRefused, NeverShared, MarginLeft, WrongWordFlips};
-ghost use Rattle.repair.specs.LiveCounts.{CleanRepaired, OneFlipRepaired};
+ghost use Rattle.repair.specs.LiveCounts.{CleanRepaired, OneFlipRepaired, NeverOverBudget};
 ghost use Rattle.repair.specs.Search.{answerOf};
 use refusal::BAD_BOUND;
 use refusal::NONE_WITHIN_LIMIT;
@@ -100,6 +100,7 @@ pub fn repair(frame: &[u8], limit: u32, budget: u32) -> RepairAnswer
     ensures flips_refused { λ r. ⌜ FlipsRefused 28 (now (frame .entry)) limit budget r ⌝ }
     ensures never_shared { λ r. ⌜ NeverShared r ⌝ }
     ensures margin_left { λ r. ⌜ MarginLeft limit r ⌝ }
+    ensures never_over_budget { λ r. ⌜ NeverOverBudget limit budget r ⌝ }
 {
     if frame.len() != 162 {
         return RepairAnswer::Refused(Refusal {

@@ -9,7 +9,7 @@ ghost use Rattle.frame.specs.RoundTrip.{WordReadsBack, WordWritesBack, WordRefu
 ghost use Rattle.repair.specs.Answer.{frameRepaired, repairNumbers};
 ghost use Rattle.repair.specs.Demand.{AsChecked, AsDemanded};
 ghost use Rattle.repair.specs.Flips.{FlipsRepaired, TwoFlipsRepaired, FourFlipsRepaired, FlipsRefused, ThreeFlipsRefused, NeverShared, MarginLeft, WrongWordFlips};
-ghost use Rattle.repair.specs.LiveCounts.{CleanRepaired, OneFlipRepaired};
+ghost use Rattle.repair.specs.LiveCounts.{CleanRepaired, OneFlipRepaired, NeverOverBudget};
 ghost use Rattle.telemetry.specs.Answer.{telemetryWritten, telemetryRead, telemetryNumbers, callsignAfterTelemetry, locatorAfterTelemetry};
 ghost use Rattle.telemetry.specs.RoundTrip.{TelemetryReadsBack, TelemetryWithinSteps, TelemetryWritesBack, TelemetryRefusedExactly};
 ghost use Rattle.wsprcard.specs.Results.{writtenResult, wordResult, messageResult, repairedResult, readingResult, writeAnswerIn, wordAnswerIn, messageAnswerIn, repairAnswerIn, telemetryAnswerIn, measuredFrom};
@@ -270,6 +270,7 @@ pub extern "C" fn wspr_repair(frame: &[u8], limit: u32, budget: u32) -> WsprRepa
     ensures flips_refused { λ r. ⌜ FlipsRefused 28 (now (frame .entry)) limit budget (repairAnswerIn r) ⌝ }
     ensures never_shared { λ r. ⌜ NeverShared (repairAnswerIn r) ⌝ }
     ensures margin_left { λ r. ⌜ MarginLeft limit (repairAnswerIn r) ⌝ }
+    ensures never_over_budget { λ r. ⌜ NeverOverBudget limit budget (repairAnswerIn r) ⌝ }
 {
     repaired_result(repair::repair(frame, limit, budget))
 }

@@ -76,7 +76,7 @@ pub fn call(arguments: &[&str]) -> Option<Call> {
     let (name, mut options) = arguments.split_first()?;
     let mut json = false;
     let mut write = false;
-    let mut limit = 2;
+    let mut limit = 4;
     let mut budget = None;
     while let Some((option, rest)) = options.split_first() {
         options = rest;
@@ -90,7 +90,7 @@ pub fn call(arguments: &[&str]) -> Option<Call> {
             _ => return None,
         }
     }
-    let budget = budget.unwrap_or(if limit > 2 { 65_536 } else { 16_000 });
+    let budget = budget.unwrap_or(65_536);
     let command = match *name {
         "encode" => Command::Encode,
         "read" => Command::Read,
