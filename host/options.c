@@ -55,10 +55,9 @@ static const struct {
     "\n" \
     "A budget below the live count refuses even a clean frame (16): with a budget of\n" \
     "65536, the largest, a clean frame is answered at limits up to 9, and at limits\n" \
-    "10 to 12 with none. So use limits up to 9. A frame with flipped data bits can\n" \
-    "have a lower or a higher live count, but none above that of a clean frame at a\n" \
-    "limit that is greater by as many: so at limit 4 a budget of 17851 always gives\n" \
-    "the word of a frame with at most four flipped data bits back.\n" \
+    "10 to 12 with none. So use limits up to 9. No frame, whatever was received, has\n" \
+    "a live count above that of a clean frame at twice the limit: so a budget of 569\n" \
+    "is enough for every frame at limit 2, and one of 17851 at limit 4.\n" \
     "\n" \
     "At limit 2 the live count of a clean frame is 131, and that of a frame with one\n" \
     "flipped data bit at most 135, reached exactly where the data bit of symbol 105,\n" \
@@ -68,10 +67,9 @@ static const struct {
     "\n" \
     "The frames of two words differ in at least 28 data bits. So at limit 4 and\n" \
     "budget 65536, as they are unless given, a word comes back where at most 4 data\n" \
-    "bits of its frame were flipped, and no word is given where 5 to 23 were (17, or\n" \
-    "16 where the live count is above the budget). A word that isn't the one that was\n" \
-    "sent takes at least 28 flipped data bits less the limit: 24 at limit 4, and 26\n" \
-    "at limit 2. This is proved for every word.\n"
+    "bits of its frame were flipped, and no word is given where 5 to 23 were (17). A\n" \
+    "word that isn't the one that was sent takes at least 28 flipped data bits less\n" \
+    "the limit: 24 at limit 4, and 26 at limit 2. This is proved for every word.\n"
 #define REPORT_HELP \
     "A report is channel, sub-square, metres, degrees, millivolts, knots and GPS,\n" \
     "as Q2 SK 12340 -15 4100 30 1. Its letters are capitals, and tabs may stand between\n" \

@@ -146,9 +146,9 @@ wspr_message wspr_read_message(const uint8_t *frame, size_t frame_len, uint8_t *
  *   live  81 81 131 279 569 1,573 3,495 7,611 17,851 42,557 97,265 222,823 514,948
  *
  * A budget below the live count refuses even a clean frame (16): with a budget of 65,536, the largest, a clean frame is
- * answered at limits up to 9, and at limits 10 to 12 with none. So use limits up to 9. A frame with flipped data bits
- * can have a lower or a higher live count, but none above that of a clean frame at a limit that is greater by as many:
- * so at limit 4 a budget of 17,851 always gives the word of a frame with at most four flipped data bits back.
+ * answered at limits up to 9, and at limits 10 to 12 with none. So use limits up to 9. No frame, whatever was received,
+ * has a live count above that of a clean frame at twice the limit: so a budget of 569 is enough for every frame at
+ * limit 2, and one of 17,851 at limit 4.
  *
  * At limit 2 the live count of a clean frame is 131, and that of a frame with one flipped data bit at most 135, reached
  * exactly where the data bit of symbol 105, counted from 0, is the flipped one. So a budget of 131 always gives the
@@ -159,8 +159,8 @@ wspr_message wspr_read_message(const uint8_t *frame, size_t frame_len, uint8_t *
  * frame's data bits were flipped:
  *
  *   as many as the limit, or fewer: that word is given, with the number of flipped bits as its disagreements, where the
- *     budget is the live count or more; so with two at most at limit 2 and budget 16,000, and with four at most at limit
- *     4 and a budget of 17,851 or more
+ *     budget is the live count or more; so two at most are always repaired at limit 2 and budget 16,000, and four at
+ *     most at limit 4 and a budget of 17,851 or more
  *   more than the limit, but flips and limit together fewer than 28: no word is given, but 17, or 16 where the live
  *     count is above the budget
  *   at any limit and budget, a word other than the sent one takes more flipped bits than it has disagreements, and 28

@@ -518,7 +518,7 @@ fn every_reason_is_told_of_frames() {
     let mut no_symbol = frame_line(&frame);
     no_symbol[77] = b'4';
     let right = frame_line(&frame);
-    let far = frame_line(&flipped(frame, &[0, 50, 100]));
+    let far = frame_line(&flipped(frame, &[0, 50, 77, 100, 150]));
     for (arguments, line, refused) in [
         (&["read"][..], &right[..161], "1 0: a frame has 162 symbols"),
         (&["read"], &no_symbol, "7 77: the symbol isn't 0 to 3"),
@@ -532,7 +532,7 @@ fn every_reason_is_told_of_frames() {
         (&["repair", "--limit", "13"], &no_symbol, "15 0: the limit isn't 0 to 12"),
         (&["repair", "--limit", "13"], &right[1..], "1 0: a frame has 162 symbols"),
         (&["repair", "--limit", "12"], &right, OVER_BUDGET),
-        (&["repair", "--budget", "130"], &right, OVER_BUDGET),
+        (&["repair", "--budget", "568"], &right, OVER_BUDGET),
         (&["repair"], &far, "17 0: no word is within the limit"),
     ] {
         assert_answer(arguments, line, &format!("refused {refused}"));
@@ -1470,7 +1470,7 @@ fn every_limit_and_budget_is_answered() {
         check_counting(&mut counts, &["repair", &format!("--limit={limit}")], &input);
     }
     for budget in BUDGETS.split(' ') {
-        let input = frames_around(&mut rng, 2);
+        let input = frames_around(&mut rng, 4);
         check_counting(&mut counts, &["repair", &format!("--budget={budget}")], &input);
     }
     counts.finish(SEEN_OF_LIMITS);
@@ -1498,7 +1498,7 @@ fn frames_around(rng: &mut Rng, limit: usize) -> Vec<u8> {
 }
 
 /// Flips, found by search, with which a frame has a live count of just a budget and of one more:
-/// of the largest, which holds where a larger limit than 2 is given alone, and of 16,000.
+/// of the largest, which holds unless one is given, and of 16,000.
 #[test]
 fn a_budget_is_gone_through_to_its_end() {
     let frame = frame_of(word_of_line(TELEMETRY));
@@ -1525,9 +1525,7 @@ fn a_budget_is_gone_through_to_its_end() {
     }
 }
 
-/// Up to limit 9 a clean frame is repaired without a budget, and from limit 10 on it is refused. At
-/// limits up to 2 no frame has a count that tells the usual budget, 16,000, from the largest: what
-/// is within 2 of any frame is within 4 of each other, and so at most the clean count at limit 4.
+/// Up to limit 9 a clean frame is repaired without a budget, and from limit 10 on it is refused.
 #[test]
 fn every_limit_alone_repairs_what_the_largest_budget_can() {
     let line = frame_line(&frame_of(word_of_line(TELEMETRY)));
@@ -1544,7 +1542,21 @@ fn every_limit_alone_repairs_what_the_largest_budget_can() {
         };
         assert!(answer.ends_with(&expected), "limit {limit}: {answer}");
     }
-    assert!(CLEAN[4] < 16_000);
+}
+
+/// Unless given, the limit is 4: four flips are repaired, and five are not. That the budget is the
+/// largest unless given shows at limits 9 and 10 above.
+#[test]
+fn the_usual_limit_is_4() {
+    let frame = frame_of(word_of_line(TELEMETRY));
+    for (flips, expected) in [
+        (&[3, 40, 77, 117][..], "; disagreements 4; "),
+        (&[3, 40, 77, 117, 161], "refused 17 0: no word is within the limit\n"),
+    ] {
+        let ended = wsprcard(&["repair"]).run(&frame_line(&flipped(frame, flips)));
+        let answer = String::from_utf8_lossy(&ended.stdout);
+        assert!(answer.contains(expected), "{flips:?}: {answer}");
+    }
 }
 
 /// Options in any order and in both forms; of one that is given twice the last counts.
@@ -1797,7 +1809,7 @@ fn what_was_read_before_a_failed_read_is_answered() {
 
 /// The files of host/sample in the order in which host/show_sample takes them.
 const SAMPLE: [&str; 6] =
-    ["clean", "two-flips", "sync-damage", "noise", "another-kind", "extended"];
+    ["clean", "four-flips", "sync-damage", "noise", "another-kind", "extended"];
 
 /// What `wsprcode "PJ4/K1ABC 37"` of WSJT-X 2.6.1 prints as channel symbols: a type 2 message.
 /// `wsprsim -c` of the same version prints the same.
@@ -1814,7 +1826,7 @@ fn sample(name: &str) -> [u8; FRAME_LEN] {
     let telemetry = frame_of(word_of_line(TELEMETRY));
     match name {
         "clean" => frame_of(word_of_line(b" K1ABC FN20 37")),
-        "two-flips" => flipped(telemetry, &[40, 117]),
+        "four-flips" => flipped(telemetry, &[12, 40, 77, 117]),
         "sync-damage" => {
             let mut frame = telemetry;
             spoil_sync(&mut Rng::new(12), &mut frame, 7);
@@ -1868,7 +1880,7 @@ fn the_sample_shows_what_it_is_for() {
     let lines: Vec<&str> = told.lines().collect();
     let expected = [
         ("clean", "  K1ABC FN20 37", "telemetry refused 10 0: "),
-        ("two-flips", " refused 9 0: ", "telemetry Q2 SK 12340 -15 4100 30 1; disagreements 2; "),
+        ("four-flips", " refused 9 0: ", "telemetry Q2 SK 12340 -15 4100 30 1; disagreements 4; "),
         ("sync-damage", " refused 8 ", "disagreements 0; live "),
         ("noise", " refused 8 ", "refused 17 0: "),
         ("another-kind", " refused 6 0: ", "message refused 6 0: "),

@@ -4,13 +4,11 @@
 use std::fs;
 
 use wsprcard_tests::child::{in_repository, Program};
+use wsprcard_tests::facts::LEAST_DISTANCE;
 use wsprcard_tests::inputs::flipped;
 use wsprcard_tests::reference::frame::{frame_of, FRAME_LEN};
 use wsprcard_tests::reference::repair::{live_count, LARGEST_BUDGET};
 use wsprcard_tests::rng::Rng;
-
-/// The budget of `wsprcard repair` unless one is given.
-const USUAL_BUDGET: u32 = 16_000;
 
 const LIMITS: std::ops::RangeInclusive<u64> = 0..=12;
 
@@ -53,23 +51,48 @@ fn the_tables_hold_the_counts_of_clean_frames() {
 /// The text in one line, without the asterisks of a comment and without commas in numbers.
 fn in_one_line(text: &str) -> String {
     let words = text.split_whitespace().filter(|&word| word != "*");
-    words.collect::<Vec<_>>().join(" ").replace("16,000", "16000").replace("65,536", "65536")
+    words.collect::<Vec<_>>().join(" ").replace("65,536", "65536").replace("17,851", "17851")
 }
 
+/// How far two limits reach, and the largest.
 #[test]
 fn the_texts_say_what_follows_from_the_counts() {
     let counts = clean_counts();
-    let last_within =
-        |budget: u32| counts.iter().rposition(|&count| count <= u64::from(budget)).unwrap();
-    let (usual, largest) = (last_within(USUAL_BUDGET), last_within(LARGEST_BUDGET));
+    let last = counts.iter().rposition(|&count| count <= u64::from(LARGEST_BUDGET)).unwrap();
     let said = format!(
         "A budget below the live count refuses even a clean frame (16): with a budget of \
-         {USUAL_BUDGET} a clean frame is answered at limits up to {usual}, with {LARGEST_BUDGET} \
-         at limits up to {largest}, and at limits {} to 12 with none. So use limits up to \
-         {largest}. A frame with flipped data bits can have a lower or a higher live count.",
-        largest + 1
+         {LARGEST_BUDGET}, the largest, a clean frame is answered at limits up to {last}, and at \
+         limits {} to 12 with none. So use limits up to {last}. No frame, whatever was received, \
+         has a live count above that of a clean frame at twice the limit: so a budget of {} is \
+         enough for every frame at limit 2, and one of {} at limit 4.",
+        last + 1,
+        counts[2 * 2],
+        counts[2 * 4]
     );
     for (name, text) in texts() {
+        assert!(in_one_line(&text).contains(&said), "{name} doesn't say: {said}");
+    }
+}
+
+/// What is said at the desk of the usual limit.
+#[test]
+fn the_texts_say_how_many_flips_a_wrong_word_takes() {
+    let (least, limit) = (LEAST_DISTANCE, 4);
+    let said = format!(
+        "The frames of two words differ in at least {least} data bits. So at limit {limit} and \
+         budget {LARGEST_BUDGET}, as they are unless given, a word comes back where at most \
+         {limit} data bits of its frame were flipped, and no word is given where {} to {} were \
+         (17). A word that isn't the one that was sent takes at least {least} flipped data bits \
+         less the limit: {} at limit {limit}, and {} at limit 2. This is proved for every word.",
+        limit + 1,
+        least - limit - 1,
+        least - limit,
+        least - 2
+    );
+    let host = texts().into_iter().filter(|(name, _)| name.contains("wsprcard.1") || name.contains("--help"));
+    let host: Vec<_> = host.collect();
+    assert_eq!(host.len(), 2);
+    for (name, text) in host {
         assert!(in_one_line(&text).contains(&said), "{name} doesn't say: {said}");
     }
 }
