@@ -449,9 +449,7 @@ static void hold_repaired(const uint8_t *frame, uint32_t limit, uint32_t budget,
     hold(again.margin == 1, "at a limit of just the disagreements no other word is within it, and the margin is 1");
 }
 
-/* By their definitions the margin is at least 1, and disagreements and margin are at most limit + 1 together. Here they
- * are just that: words are 28 data bits apart or more, which tests/tests/repair.rs counts, so none but the answer is
- * within a limit of 12. */
+/* What is promised of the margin. Words are 28 data bits apart or more, so none but the answer is within the limit. */
 static void hold_margin(uint32_t limit, wspr_repaired r)
 {
     hold(r.margin >= 1, "the next nearest word has more disagreements");
@@ -469,32 +467,35 @@ static void hold_live(const uint8_t *frame, uint32_t limit, wspr_repaired r)
     hold(less.refusal == 16, "a budget below the live count is refused 16");
 }
 
-/* What is promised of two flipped data bits at most, of three, and of a word other than the sent one; and that a known
- * word is never passed over for a farther one. */
-static void hold_sent_word(const struct frame_input *f, uint32_t limit, uint32_t budget, wspr_repaired r)
+/* What is promised of flipped data bits as many as the limit or fewer, of more, and of a word other than the sent one,
+ * for limits and budgets within their bounds. */
+static void hold_sent_word(const struct frame_input *f, uint32_t limit, wspr_repaired r)
 {
-    if (f->flips <= 2 && limit == 2 && budget >= 16000 && budget <= 65536) {
-        hold(r.refusal == 0 && r.word == f->word && r.disagreements == f->flips, "two flipped data bits are repaired");
-        hold(r.margin == 3 - f->flips, "at limit 2 the margin is 3 less the number of flipped data bits");
+    if (f->flips <= limit) {
+        hold(r.refusal == 0 || r.refusal == 16, "flips within the limit are repaired, or out of budget");
+        hold(r.refusal || (r.word == f->word && r.disagreements == f->flips), "the sent word is given, with its flips");
+    } else if (f->flips + limit < 28) {
+        hold(r.refusal == 17 || r.refusal == 16, "more flips than the limit, with it fewer than 28, give no word");
     }
-    if (f->flips == 3 && limit == 2 && budget >= 1 && budget <= 65536) {
-        hold(r.refusal == 17 || r.refusal == 16, "at limit 2 three flipped data bits give no word");
-        hold(r.refusal == 17 || budget < 16000, "their live count is below 16,000");
-    }
-    if (f->flips <= limit)
-        hold(r.refusal != 17, "a word within the limit isn't refused 17");
-    if (r.refusal == 0)
-        hold(r.disagreements <= f->flips, "the nearest word is as near as the one that was sent");
     if (r.refusal == 0 && r.word != f->word) {
         hold(r.disagreements < f->flips, "another word is nearer than the one that was sent");
-        hold(f->flips + r.disagreements >= 6, "another word takes six flipped data bits less its disagreements");
+        hold(f->flips + r.disagreements >= 28, "another word takes 28 flipped data bits less its disagreements");
     }
 }
 
-/* What is promised of a clean frame's live count at limits up to 5: it is the least budget that gives the word back. */
+/* What is promised of any symbols: the budget that is enough at a limit, and that no two words are as near. */
+static void hold_never(uint32_t limit, uint32_t budget, wspr_repaired r)
+{
+    static const uint32_t enough[] = {81, 131, 569, 3495, 17851};
+
+    hold(r.refusal != 16 || limit >= COUNT(enough) || budget < enough[limit], "a budget that is enough is");
+    hold(r.refusal != 18, "18 is never given");
+}
+
+/* What is promised of a clean frame's live count at limits up to 10: it is the least budget that gives the word. */
 static void hold_clean(uint32_t limit, uint32_t budget, wspr_repaired r)
 {
-    static const uint32_t live[] = {81, 81, 131, 279, 569, 1573};
+    static const uint32_t live[] = {81, 81, 131, 279, 569, 1573, 3495, 7611, 17851, 42557, 97265};
 
     hold(r.refusal == (budget < live[limit] ? 16 : 0), "a clean frame is given back with a budget of its live count");
     hold(r.refusal || r.live == live[limit], "a clean frame has the live count of the limit");
@@ -544,11 +545,12 @@ static void try_repair(struct generator *g)
     answered(r.refusal, r.place);
     hold_unchanged(&frame, &frame);
     hold_repair_refusal(&frame, limit, budget, r);
-    if (f.of_word && !f.spoiled && frame.len == FRAME_LEN) {
-        hold_sent_word(&f, limit, budget, r);
-        if (f.flips == 0 && limit <= 5 && budget >= 1 && budget <= 65536)
+    hold_never(limit, budget, r);
+    if (f.of_word && !f.spoiled && frame.len == FRAME_LEN && r.refusal != 15) {
+        hold_sent_word(&f, limit, r);
+        if (f.flips == 0 && limit <= 10)
             hold_clean(limit, budget, r);
-        if (f.flips == 1 && limit == 2 && budget >= 1 && budget <= 65536)
+        if (f.flips == 1 && limit == 2)
             hold_one_flip(&f, budget, r);
     }
     if (r.refusal == 0) {

@@ -207,8 +207,10 @@ static void take_for_another(struct generator *g, struct frame_input *f)
 /* The frame of a word, whole or with more or fewer of its bits turned over. */
 static void draw_damaged(struct generator *g, struct frame_input *f)
 {
+    uint32_t most = draw_once_in(g, 4) ? FRAME_LEN : draw_once_in(g, 2) ? 27 : 5;
+
     f->word = draw_word(g) % WORDS;
-    f->flips = draw_once_in(g, 2) ? 0 : 1 + (uint32_t)draw_below(g, draw_once_in(g, 4) ? FRAME_LEN : 3);
+    f->flips = draw_once_in(g, 2) ? 0 : 1 + (uint32_t)draw_below(g, most);
     f->sync_wrong = draw_once_in(g, 3) ? 1 + (uint32_t)draw_below(g, draw_once_in(g, 4) ? FRAME_LEN : 3) : 0;
     wspr_write_word(f->word, f->symbols.bytes, FRAME_LEN);
     if (f->flips == 1 && draw_once_in(g, 8))
@@ -257,15 +259,17 @@ uint32_t draw_limit(struct generator *g)
     }
 }
 
-/* Often next to 81, 131 and 135, the live counts of clean frames and of the worst flipped data bit. */
+/* Often next to 81, 131, 569 and 17,851, the live counts of clean frames, and 135, that of the worst flipped bit. */
 uint32_t draw_budget(struct generator *g)
 {
+    static const uint32_t counts[] = {78, 128, 128, 566, 17848};
+
     switch (draw_below(g, 6)) {
     case 0:
     case 1:
         return draw_edge(g);
     case 2:
-        return (draw_once_in(g, 4) ? 78 : 128) + (uint32_t)draw_below(g, 8);
+        return counts[draw_below(g, COUNT(counts))] + (uint32_t)draw_below(g, 8);
     default:
         return 81 + (uint32_t)draw_below(g, 16000);
     }

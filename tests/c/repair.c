@@ -60,6 +60,29 @@ static void repair_damage(uint8_t *frame)
     frame[0] ^= 2;
     repair_and_print("data bit 0 flipped too", frame, SYMBOLS, 2, 16000);
     repair_and_print("data bit 0 flipped too", frame, SYMBOLS, 3, 16000);
+    frame[161] ^= 2;
+    repair_and_print("data bit 161 flipped too", frame, SYMBOLS, 4, 65536);
+    frame[80] ^= 2;
+    repair_and_print("data bit 80 flipped too", frame, SYMBOLS, 4, 65536);
+}
+
+/* Two words whose frames differ in just 28 data bits: so many must be flipped, less the limit, for the wrong one. */
+static void repair_between(void)
+{
+    uint8_t frame[SYMBOLS], other[SYMBOLS];
+    unsigned flips = 0;
+
+    wspr_write_word(0, frame, SYMBOLS);
+    wspr_write_word(0x546c3, other, SYMBOLS);
+    for (size_t i = 0; i < SYMBOLS; i++) {
+        if (frame[i] == other[i])
+            continue;
+        frame[i] = other[i];
+        if (++flips == 4 || flips == 5 || flips == 23 || flips == 24 || flips == 28) {
+            printf("%u flips: ", flips);
+            repair_and_print("from word 0 to word 546c3", frame, SYMBOLS, 4, 65536);
+        }
+    }
 }
 
 /* What is refused before any search, the last refusal first. */
@@ -84,6 +107,7 @@ int main(void)
     wspr_write_message((const uint8_t *)" K1ABC", 6, (const uint8_t *)"FN20", 4, 37, frame, SYMBOLS);
     repair_damage(frame);
     repair_refused(frame);
+    repair_between();
     wspr_write_word((UINT64_C(1) << 50) - 1, frame, SYMBOLS);
     frame[161] ^= 2;
     repair_and_print("word 3ffffffffffff, data bit 161 flipped", frame, SYMBOLS, 2, 16000);

@@ -363,7 +363,7 @@ fn the_summaries_of_the_manual_page_hold() {
     let mut sync_wrong = message;
     sync_wrong[5] ^= 1;
     let no_word = flipped(message, &[9]);
-    let far = flipped(message, &[9, 50, 100]);
+    let far = flipped(message, &[9, 50, 77, 100, 150]);
     for (arguments, frames, summary, status) in [
         (COMMANDS[1], vec![], "wsprcard read: 0 lines, 0 answered, 0 refused", 0),
         (COMMANDS[1], vec![message; 2], "wsprcard read: 2 lines, 2 answered, 0 refused", 0),
@@ -870,7 +870,7 @@ fn the_vectors_of_wsjtx_are_answered() {
     assert_eq!(repaired.lines().count(), 39);
     for (answer, start) in repaired.lines().zip(starts) {
         assert!(answer.starts_with(&start), "{answer}");
-        assert!(answer.ends_with("; sync wrong 0; margin 3"), "{answer}");
+        assert!(answer.ends_with("; sync wrong 0; margin 5"), "{answer}");
     }
     for (arguments, input) in [("encode", &messages), ("telemetry", &messages), ("read", &frames)] {
         check(&[arguments], input);
@@ -1415,24 +1415,34 @@ fn what_telemetry_writes_it_reads() {
     assert_output(&reports, &pipe(write, read, &reports), &reports, 0);
 }
 
-/// Whichever two data bits of a message's frame are flipped, the message comes back.
+/// Whichever four data bits of a message's frame are flipped, or fewer, the message comes back.
 #[test]
-fn two_flips_are_repaired() {
+fn four_flips_are_repaired() {
     let mut rng = Rng::new(9);
     let messages: Vec<Vec<u8>> = (0..1_000).map(|_| telemetry_line(&mut rng)).collect();
-    let frames = joined(messages.iter().map(|line| {
-        let places = random_places(&mut rng, 2);
+    let frames = joined(messages.iter().zip(0..).map(|(line, turn)| {
+        let places = random_places(&mut rng, flips_of(turn));
         frame_line(&flipped(frame_of(word_of_line(line)), &places))
     }));
     let ended = wsprcard(&["repair"]).run(&frames);
     assert_eq!(ended.status.code(), Some(0));
     let stdout = String::from_utf8(ended.stdout).unwrap();
     assert_eq!(stdout.lines().count(), messages.len());
-    for (answer, message) in stdout.lines().zip(&messages) {
+    for (turn, (answer, message)) in stdout.lines().zip(&messages).enumerate() {
         let part = format!("; message {}; telemetry ", String::from_utf8_lossy(message));
         assert!(answer.contains(&part), "{answer}");
-        assert!(answer.contains("; disagreements 2; live "), "{answer}");
-        assert!(answer.ends_with("; sync wrong 0; margin 1"), "{answer}");
+        let flips = flips_of(turn);
+        assert!(answer.contains(&format!("; disagreements {flips}; live ")), "{answer}");
+        assert!(answer.ends_with(&format!("; sync wrong 0; margin {}", 5 - flips)), "{answer}");
+    }
+}
+
+/// Every other frame has four flips, and the others one to three.
+fn flips_of(turn: usize) -> usize {
+    if turn % 2 == 0 {
+        4
+    } else {
+        1 + turn / 2 % 3
     }
 }
 
@@ -1892,7 +1902,7 @@ fn the_sample_shows_what_it_is_for() {
         assert!(lines[1].starts_with(&format!("  read:  {read}")), "{}", lines[1]);
         assert!(lines[2].starts_with("  repair: ") && lines[2].contains(repair), "{}", lines[2]);
     }
-    assert!(lines[8].ends_with("; sync wrong 7; margin 3"));
+    assert!(lines[8].ends_with("; sync wrong 7; margin 5"));
 }
 
 #[test]
