@@ -69,13 +69,31 @@ void draw_worst_flip(inputs *in, size_t i)
     in->frames[i][places[96]] ^= 2;
 }
 
-void draw_two_flips(inputs *in, size_t i)
+/* The frame of a word, with the data bits of so many different symbols flipped. */
+static void draw_flips(inputs *in, size_t i, size_t count)
 {
-    uint32_t first = below(SYMBOLS), second = below(SYMBOLS - 1);
+    uint8_t flipped[SYMBOLS] = {0};
 
     draw_frame_of_word(in, i);
-    in->frames[i][first] ^= 2;
-    in->frames[i][second < first ? second : second + 1] ^= 2;
+    while (count > 0) {
+        uint32_t place = below(SYMBOLS);
+
+        if (flipped[place])
+            continue;
+        flipped[place] = 1;
+        in->frames[i][place] ^= 2;
+        count--;
+    }
+}
+
+void draw_two_flips(inputs *in, size_t i)
+{
+    draw_flips(in, i, 2);
+}
+
+void draw_four_flips(inputs *in, size_t i)
+{
+    draw_flips(in, i, 4);
 }
 
 static void draw_symbols(uint8_t *frame)

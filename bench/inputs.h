@@ -28,7 +28,7 @@ typedef struct {
 typedef void draw(inputs *in, size_t i);
 
 draw draw_message, draw_word, draw_word_of_message, draw_frame_of_word, draw_frame_of_message;
-draw draw_worst_flip, draw_two_flips, draw_report, draw_message_of_report;
+draw draw_worst_flip, draw_two_flips, draw_four_flips, draw_report, draw_message_of_report;
 
 /* Symbols at random that aren't refused 16 with the limit and the budget of the inputs. */
 draw draw_noise;

@@ -52,9 +52,11 @@ impl Received {
         card::Repaired { refusal: 0, place: 0, word, disagreements, live, sync_wrong, margin }
     }
 
-    /// The largest live count that is promised: a clean frame's at the limit and the flips together.
+    /// The largest live count that is promised: a clean frame's at the limit and the flips together,
+    /// or at twice the limit, whatever the flips.
     fn most_live(&self, limit: u32) -> u64 {
-        CLEAN.get((limit + self.flips) as usize).copied().unwrap_or(u64::MAX)
+        let clean_limit = limit + limit.min(self.flips);
+        CLEAN.get(clean_limit as usize).copied().unwrap_or(u64::MAX)
     }
 
     /// Where the number of flips lies. The band is what is above the limit and, together with the
