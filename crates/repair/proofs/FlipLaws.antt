@@ -145,7 +145,7 @@ unfolding cleanCount
 four-flips-repaired frame limit budget four enough bounds right word h few =
     let within : Bounds 4 budget = rw four at bounds in
     rw four
-    (flips-repaired frame 4 budget right within word h few .1
+    (flips-repaired frame 4 budget right within word h (omega (arith, few)) .1
     (omega (arith, any-most (receivedBits frame) 4 (length-receivedBits frame) (omega arith))))
 
 -- ---- More flips than the limit, and other words
@@ -197,51 +197,52 @@ module _ (least : ℕ) (apart : FramesApart least) (frame : List ℕ) (limit bud
 
 -- ---- One word within the limit, if any
 
--- Two that share the fewest disagreements would both be within the limit.
-pub never-shared : (frame : List ℕ) (limit budget : ℕ) → NeverShared (frameRepaired frame limit budget)
-unfolding repairNumbers
-never-shared frame limit budget place =
-    by-check frame limit budget (λ a. a ≡ RepairAnswer.Refused (refusal sharedFewest place) → ⊥)
-    (λ other e. absurd (omega (arith, number-same _ _ e)))
-    (λ long more e. absurd (omega (arith, number-same _ _ e)))
-    (λ long bad e. absurd (omega (arith, number-same _ _ e)))
-    (λ long bounds first e. absurd (omega (arith, number-same _ _ e)))
-    (λ right bounds e. one-only bounds (shared-of frame limit budget (number-same _ _ e) .1))
-  where
-    one-only : Bounds limit budget → Shared (receivedBits frame) limit → ⊥
-    one-only bounds words =
-        let (one-known, one-least) = words .one-fewest in
-        let (another-known, another-least) = words .another-fewest in
-        omega (
-          arith,
-          one-within (words .one) (words .another) limit frame (bounds .limit-to-12) one-known another-known (words .different) (words .within-limit),
-          another-least (words .one) one-known,
-          words .within-limit,
-        )
+module _ (frame : List ℕ) (limit budget : ℕ) where
+  -- Two that share the fewest disagreements would both be within the limit.
+  none-shared : Bounds limit budget → Shared (receivedBits frame) limit → ⊥
+  none-shared bounds words =
+      let (one-known, one-least) = words .one-fewest in
+      let (another-known, another-least) = words .another-fewest in
+      omega (
+        arith,
+        one-within (words .one) (words .another) limit frame (bounds .limit-to-12) one-known another-known (words .different) (words .within-limit),
+        another-least (words .one) one-known,
+        words .within-limit,
+      )
 
--- A next nearest word is never within the limit.
-pub margin-limit : (frame : List ℕ) (limit budget : ℕ) → MarginLeft limit (frameRepaired frame limit budget)
-margin-limit frame limit budget nearest =
-    by-check frame limit budget (λ a. a ≡ RepairAnswer.Word nearest → nearest .disagreements + nearest .margin ≡ limit + 1)
-    (λ other e. absurd (refused-not-word _ nearest e))
-    (λ long more e. absurd (refused-not-word _ nearest e))
-    (λ long bad e. absurd (refused-not-word _ nearest e))
-    (λ long bounds first e. absurd (refused-not-word _ nearest e))
-    (λ right bounds e. left bounds (word-of frame limit budget nearest e .1))
-  where
-    left : Bounds limit budget → IsNearest frame limit nearest → nearest .disagreements + nearest .margin ≡ limit + 1
-    left bounds is = ⊎-elim within beyond (is .its-margin .exactly)
-      where
-        within : OtherWithin (receivedBits frame) limit (nearest .word) (nearest .margin) → nearest .disagreements + nearest .margin ≡ limit + 1
-        within next =
-            absurd
-            (omega (
-              arith,
-              one-within (nearest .word) (next .other) limit frame (bounds .limit-to-12) (is .only-nearest .0) (next .in-50-bits)
-                  (λ e. next .different (sym e))
-                  (omega (arith, is .its-disagreements, is .within-limit)),
-              next .within-limit,
-            ))
+  pub never-shared : NeverShared (frameRepaired frame limit budget)
+  unfolding repairNumbers
+  never-shared =
+      by-check frame limit budget NeverShared
+      (λ other place e. omega (arith, number-same _ _ e))
+      (λ long more place e. omega (arith, number-same _ _ e))
+      (λ long bad place e. omega (arith, number-same _ _ e))
+      (λ long bounds first place e. omega (arith, number-same _ _ e))
+      (λ right bounds place e. none-shared bounds (shared-of frame limit budget (number-same _ _ e) .1))
 
-        beyond : NoOtherWithin (receivedBits frame) limit (nearest .word) (nearest .margin) → nearest .disagreements + nearest .margin ≡ limit + 1
-        beyond none = rw (is .its-disagreements) (none .next-after-limit)
+  -- The next nearest word is never within the limit.
+  margin-of : (nearest : Nearest) → Bounds limit budget → IsNearest frame limit nearest → nearest .disagreements + nearest .margin ≡ limit + 1
+  margin-of nearest bounds is = ⊎-elim within beyond (is .its-margin .exactly)
+    where
+      within : OtherWithin (receivedBits frame) limit (nearest .word) (nearest .margin) → nearest .disagreements + nearest .margin ≡ limit + 1
+      within next =
+          absurd
+          (omega (
+            arith,
+            one-within (nearest .word) (next .other) limit frame (bounds .limit-to-12) (is .only-nearest .0) (next .in-50-bits)
+                (λ e. next .different (sym e))
+                (omega (arith, is .its-disagreements, is .within-limit)),
+            next .within-limit,
+          ))
+
+      beyond : NoOtherWithin (receivedBits frame) limit (nearest .word) (nearest .margin) → nearest .disagreements + nearest .margin ≡ limit + 1
+      beyond none = rw (is .its-disagreements) (none .next-after-limit)
+
+  pub margin-limit : MarginLeft limit (frameRepaired frame limit budget)
+  margin-limit =
+      by-check frame limit budget (MarginLeft limit)
+      (λ other nearest e. absurd (refused-not-word _ nearest e))
+      (λ long more nearest e. absurd (refused-not-word _ nearest e))
+      (λ long bad nearest e. absurd (refused-not-word _ nearest e))
+      (λ long bounds first nearest e. absurd (refused-not-word _ nearest e))
+      (λ right bounds nearest e. omega (arith, margin-of nearest bounds (word-of frame limit budget nearest e .1)))

@@ -128,12 +128,13 @@ one-flip-repaired frame limit budget two bounds right word h one =
       always-given-back = λ enough. back .1 (omega (arith, count .at-most));
     })
 
+-- 16 would need a larger live count.
 pub never-over-budget : (frame : List ℕ) (limit budget : ℕ) → NeverOverBudget limit budget (frameRepaired frame limit budget)
 unfolding repairNumbers
-never-over-budget frame limit budget to-4 enough place =
-    by-check frame limit budget (λ a. a ≡ RepairAnswer.Refused (refusal overBudget place) → ⊥)
-    (λ other e. absurd (omega (arith, number-same _ _ e)))
-    (λ long more e. absurd (omega (arith, number-same _ _ e)))
-    (λ long bad e. absurd (omega (arith, number-same _ _ e)))
-    (λ long bounds first e. absurd (omega (arith, number-same _ _ e)))
-    (λ right bounds e. absurd (omega (arith, over-of frame limit budget (number-same _ _ e), counts-of-any frame limit (omega arith))))
+never-over-budget frame limit budget =
+    by-check frame limit budget (NeverOverBudget limit budget)
+    (λ other to-4 enough place e. omega (arith, number-same _ _ e))
+    (λ long more to-4 enough place e. omega (arith, number-same _ _ e))
+    (λ long bad to-4 enough place e. omega (arith, number-same _ _ e))
+    (λ long bounds first to-4 enough place e. omega (arith, number-same _ _ e))
+    (λ right bounds to-4 enough place e. omega (arith, over-of frame limit budget (number-same _ _ e), counts-of-any frame limit (omega arith)))
