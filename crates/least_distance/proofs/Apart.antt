@@ -1,15 +1,14 @@
 -- The coded bits of any two different words differ in at least 28 places, and those of two words in exactly 28.
 use mathlib.Core.Path.{_≡_, refl, sym, ap, _∙_}
 use mathlib.Core.Logic.{_⊎_, inl, inr}
-use Prim.Native.Nat.{ℕ, _+_, _*_, _-_, _%_, _^_, _≤_, _<_, min}
+use Prim.Native.Nat.{ℕ, _^_, _≤_, _<_}
 use native.Mathlib.Omega.{arith}
-use mathlib.Core.List.{List, [], _∷_, _++_, append-nil}
-use lib.Bits.{bitAnd, bitXor, xor-lt, xor-add-and, and-le-l, and-le-r}
-use lib.Count.{onesIn}
+use mathlib.Core.List.{[], _++_, append-nil}
+use lib.Bits.{bitXor, xor-lt, xor-add-and, and-le-l, and-le-r}
 use lib.ListN.{length, replicate}
 use Rattle.basics.proofs.Choice.{below-or-not}
 use Rattle.radix.specs.Numeral.{count, digitsOf}
-use Rattle.convolution.specs.Code.{bitsOf, clockedBits, firstMask, secondMask, codedFrom, codedBits}
+use Rattle.convolution.specs.Code.{bitsOf, clockedBits, firstMask, secondMask, codedBits}
 use Rattle.convolution.proofs.CodeLaws.{length-clockedBits, length-codedBits}
 use Rattle.distance.specs.Prefixes.{freeOf, prefixBits, prefixesOf, differences}
 use Rattle.distance.proofs.Bits.{AllBits, bits-append, bits-zeros, bits-bitsOf, summed, summed-same, differences-summed}

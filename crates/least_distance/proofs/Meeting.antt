@@ -1,7 +1,7 @@
 -- No path that leaves the zero state and returns to it weighs 27 or less. It would pass a step from a state to which the zero state's first 1
 -- leads within weight 13 to one that leads to the zero state within weight 13. The checker computes both kinds of states, and that no step
 -- goes from one to the other.
-use mathlib.Core.Path.{_≡_, refl, sym, ap, _∙_}
+use mathlib.Core.Path.{_≡_, refl, sym, _∙_}
 use mathlib.Core.Logic.{_⊎_, inl, inr}
 use Prim.Native.Nat.{ℕ, _+_, _*_, _/_, _%_, _^_, _≤_, _<_}
 use native.Mathlib.Omega.{arith}
@@ -11,7 +11,7 @@ use lib.ListN.{length, length-append}
 use Rattle.convolution.specs.Code.{firstMask, secondMask}
 use Rattle.distance.proofs.Bits.{AllBits, bits-parts}
 use Rattle.trellis.proofs.Steps.{endOf, weightOf, end-append, weight-append, Cut, within-or-cut, FirstOne}
-use Rattle.trellis.proofs.States.{onward, backward, end-below, turned}
+use Rattle.trellis.proofs.States.{onward, backward, turned}
 use Rattle.trellis.proofs.Running.{aheadResponse, onwardCounts, onwardResponse, onward-running, one-weighs, behindResponse, backwardCounts, backwardResponse, backward-running}
 use Rattle.trellis.proofs.Reached.{further, reached, reached-keeps, one-reached, zero-reached}
 use Rattle.trellis.proofs.Common.{In, halved, parted, nothingCommon, nothing-common}

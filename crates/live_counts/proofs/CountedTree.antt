@@ -1,18 +1,18 @@
 -- The tree of live prefixes along the counts that are kept of the encoder's states, which a checker can compute.
-use mathlib.Core.Path.{_≡_, refl, sym, ap, ap₂, _∙_}
+use mathlib.Core.Path.{_≡_, refl, ap, ap₂, _∙_}
 use Prim.Native.Nat.{ℕ, zero, suc, _+_, _-_, _*_, _/_, _%_, _^_, _≤_, _<_}
 use native.Mathlib.Omega.{arith}
 use mathlib.Core.List.{List, [], _∷_}
 use lib.ListN.{length, drop}
 use borrow.Author.Tests.{le-leb, lt-leb}
 use Rattle.basics.proofs.Choice.{below-or-not, equal-or-not}
-use Rattle.convolution.specs.Code.{clocked, firstMask, secondMask, parity}
+use Rattle.convolution.specs.Code.{clocked}
 use Rattle.distance.specs.Prefixes.{unlike, differences, liveCount}
 use Rattle.distance.specs.Steps.{stepCost}
 use Rattle.distance.proofs.Bits.{AllBits, alike, not-alike}
 use Rattle.distance.proofs.StepLaws.{step-others}
 use Rattle.distance.proofs.Tree.{step, step-live, step-dead, tree, liveCount-tree}
-use Rattle.trellis.proofs.States.{onward, clocked-state, next-state}
+use Rattle.trellis.proofs.States.{clocked-state, next-state}
 use Rattle.trellis.proofs.Running.{onwardCounts, onwardResponse, onward-running, onward-first-coded, onward-second-coded}
 
 -- ---- Computed

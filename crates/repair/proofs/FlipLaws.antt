@@ -15,7 +15,6 @@ use Rattle.convolution.specs.Code.{codedBits}
 use Rattle.convolution.proofs.CodeLaws.{length-codedBits}
 use Rattle.interleaver.specs.Places.{placeOf, indexAt}
 use Rattle.interleaver.proofs.PlaceLaws.{placeOf-below, indexAt-below, indexAt-placeOf, placeOf-indexAt}
-use Rattle.refusal.specs.Refusals.{refusal, sharedFewest}
 use Rattle.frame.specs.Symbols.{frameOf, RightSymbols, dataAt, receivedBits}
 use Rattle.frame.proofs.SymbolLaws.{length-receivedBits, getD-receivedBits, received-frameOf}
 use Rattle.distance.specs.Prefixes.{differences, wordDisagreements, liveCount}
@@ -30,7 +29,6 @@ use Rattle.repair.specs.Answer.{nearestWith, frameRepaired, repairNumber
 use Rattle.repair.specs.Demand.{Bounds, IsNearest, NoneWithin, Shared}
 use Rattle.repair.specs.Flips.{flippedAt, flips, givenBack, FramesApart, FramesLeast, FlipsRepaired, TwoFlipsRepaired, FourFlipsRepaired, noWordGiven, FlipsLaw, ThreeFlipsRefused, NeverShared, MarginLeft, WrongWordFlips}
 use Rattle.repair.specs.declared.Nearest.{Nearest}
-use Rattle.repair.specs.declared.RepairAnswer.{RepairAnswer}
 use Rattle.repair.proofs.AnswerLaws.{refused-not-word, number-same, word-of, shared-of, demanded}
 use Rattle.repair.proofs.CheckLaws.{by-check}
 

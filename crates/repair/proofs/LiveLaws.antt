@@ -10,7 +10,6 @@ use Rattle.basics.proofs.Choice.{by-test}
 use Rattle.convolution.specs.Code.{codedBits}
 use Rattle.convolution.proofs.CodeLaws.{length-codedBits}
 use Rattle.interleaver.specs.Places.{placeOf}
-use Rattle.refusal.specs.Refusals.{refusal, overBudget}
 use Rattle.frame.specs.Symbols.{RightSymbols, receivedBits}
 use Rattle.frame.proofs.SymbolLaws.{length-receivedBits}
 use Rattle.distance.specs.Prefixes.{differences, liveCount}

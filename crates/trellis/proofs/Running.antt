@@ -1,8 +1,8 @@
 -- Counts that are kept along a path: for this step and for each later one, in how many places the masks meet the bits that are known. With
 -- them a step is cheap to compute: a digit dropped is the next step, and a bit 1 adds one fixed number, its response.
-use mathlib.Core.Path.{_≡_, refl, sym, ap, ap₂, _∙_}
-use Prim.Native.Nat.{ℕ, zero, suc, _+_, _-_, _*_, _/_, _%_, _^_, _≤_, _<_, min}
-use native.Mathlib.Nat.{pow-suc, mod-lt}
+use mathlib.Core.Path.{_≡_, refl, sym, ap, _∙_}
+use Prim.Native.Nat.{ℕ, zero, suc, _+_, _-_, _*_, _/_, _%_, _^_, _<_, min}
+use native.Mathlib.Nat.{pow-suc}
 use native.Mathlib.Omega.{arith}
 use mathlib.Core.List.{List, [], _∷_}
 use lib.Bits.{bitAnd, and-zero-l, and-zero-r, and-le-l, and-le-r, and-mod}
