@@ -17,7 +17,8 @@ use Rattle.distance.proofs.PrefixLaws.{prefixBits-injective, bits-codedBits}
 use Rattle.distance.proofs.Recentred.{zeroBits, codedBits-zero}
 use Rattle.trellis.proofs.Steps.{endOf, weightOf, end-append, FirstOne, Stays, zeros-or-one}
 use Rattle.trellis.proofs.States.{onward, weight-coded, end-zero, end-below}
-use Rattle.trellis.proofs.Running.{onward-running, zero-free, aheadResponse, onwardResponse, countedWeight, weight-counted}
+use Rattle.trellis.proofs.Running.{zero-free, countedWeight, weight-counted}
+use Rattle.trellis.proofs.Onward.{onward-running, aheadResponse, onwardResponse}
 use Rattle.least_distance.specs.Least.{LeastDistance}
 use Rattle.least_distance.proofs.Meeting.{heavy}
 

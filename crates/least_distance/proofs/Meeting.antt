@@ -12,7 +12,9 @@ use Rattle.convolution.specs.Code.{firstMask, secondMask}
 use Rattle.distance.proofs.Bits.{AllBits, bits-parts}
 use Rattle.trellis.proofs.Steps.{endOf, weightOf, end-append, weight-append, Cut, within-or-cut, FirstOne}
 use Rattle.trellis.proofs.States.{onward, backward, turned}
-use Rattle.trellis.proofs.Running.{aheadResponse, onwardCounts, onwardResponse, onward-running, one-weighs, behindResponse, backwardCounts, backwardResponse, backward-running}
+use Rattle.trellis.proofs.Running.{one-weighs}
+use Rattle.trellis.proofs.Onward.{aheadResponse, onwardCounts, onwardResponse, onward-running}
+use Rattle.trellis.proofs.Backward.{behindResponse, backwardCounts, backwardResponse, backward-running}
 use Rattle.trellis.proofs.Reached.{further, reached, reached-keeps, one-reached, zero-reached}
 use Rattle.trellis.proofs.Common.{In, halved, parted, nothingCommon, nothing-common}
 

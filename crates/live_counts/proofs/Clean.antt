@@ -12,7 +12,7 @@ use Rattle.distance.specs.Prefixes.{differences, wordDisagreements, liveCount}
 use Rattle.distance.proofs.Bits.{bits-zeros, differences-sym}
 use Rattle.distance.proofs.PrefixLaws.{word-disagreements}
 use Rattle.distance.proofs.Recentred.{zeroBits, liveCount-clean, liveCount-flipped, liveCount-any}
-use Rattle.trellis.proofs.Running.{aheadResponse, onwardResponse}
+use Rattle.trellis.proofs.Onward.{aheadResponse, onwardResponse}
 use Rattle.live_counts.specs.CleanCounts.{cleanCounts, cleanCount}
 use Rattle.live_counts.proofs.CountedTree.{beyond, countedTree, liveCount-counted}
 

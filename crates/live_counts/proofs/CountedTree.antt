@@ -13,7 +13,7 @@ use Rattle.distance.proofs.Bits.{AllBits, alike, not-alike}
 use Rattle.distance.proofs.StepLaws.{step-others}
 use Rattle.distance.proofs.Tree.{step, step-live, step-dead, tree, liveCount-tree}
 use Rattle.trellis.proofs.States.{clocked-state, next-state}
-use Rattle.trellis.proofs.Running.{onwardCounts, onwardResponse, onward-running, onward-first-coded, onward-second-coded}
+use Rattle.trellis.proofs.Onward.{onwardCounts, onwardResponse, onward-running, onward-first-coded, onward-second-coded}
 
 -- ---- Computed
 

@@ -16,7 +16,7 @@ use Rattle.distance.specs.Prefixes.{differences, liveCount}
 use Rattle.distance.proofs.Bits.{AllBits}
 use Rattle.distance.proofs.PrefixLaws.{bits-codedBits}
 use Rattle.distance.proofs.Recentred.{liveCount-around}
-use Rattle.trellis.proofs.Running.{aheadResponse, onwardResponse}
+use Rattle.trellis.proofs.Onward.{aheadResponse, onwardResponse}
 use Rattle.live_counts.proofs.CountedTree.{beyond, countedTree, liveCount-counted}
 use Rattle.live_counts.proofs.OneBit.{oneAt, length-oneAt, bits-oneAt, ApartAt, one-apart}
 
