@@ -57,7 +57,8 @@ static const struct {
     "65536, the largest, a clean frame is answered at limits up to 9, and at limits\n" \
     "10 to 12 with none. So use limits up to 9. No frame, whatever was received, has\n" \
     "a live count above that of a clean frame at twice the limit: so a budget of 569\n" \
-    "is enough for every frame at limit 2, and one of 17851 at limit 4.\n" \
+    "is enough for every frame at limit 2, and one of 17851 at limit 4. This is\n" \
+    "proved; at limits from 5 on no budget is proved to be enough for every frame.\n" \
     "\n" \
     "At limit 2 the live count of a clean frame is 131, and that of a frame with one\n" \
     "flipped data bit at most 135, reached exactly where the data bit of symbol 105,\n" \

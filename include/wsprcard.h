@@ -148,7 +148,8 @@ wspr_message wspr_read_message(const uint8_t *frame, size_t frame_len, uint8_t *
  * A budget below the live count refuses even a clean frame (16): with a budget of 65,536, the largest, a clean frame is
  * answered at limits up to 9, and at limits 10 to 12 with none. So use limits up to 9. No frame, whatever was received,
  * has a live count above that of a clean frame at twice the limit: so a budget of 569 is enough for every frame at
- * limit 2, and one of 17,851 at limit 4.
+ * limit 2, and one of 17,851 at limit 4. This is proved; at limits from 5 on no budget is proved to be enough for every
+ * frame.
  *
  * At limit 2 the live count of a clean frame is 131, and that of a frame with one flipped data bit at most 135, reached
  * exactly where the data bit of symbol 105, counted from 0, is the flipped one. So a budget of 131 always gives the
@@ -167,8 +168,8 @@ wspr_message wspr_read_message(const uint8_t *frame, size_t frame_len, uint8_t *
  *     or more of both together: at limit 4 at least 24, at limit 2 at least 26
  *
  * The margin: every other word has at least so many more disagreements than the answer. Where no other word is within
- * the limit, the next is taken to have limit + 1. As two words never are, the margin is always limit + 1 less the
- * disagreements: it grows with the limit, and other words may be further away than that.
+ * the limit, the next is taken to have limit + 1. As no two words are within one limit, the margin is always limit + 1
+ * less the disagreements: it grows with the limit, and other words may be further away than that.
  *
  * Refusals 1, 15, 7, 16, 17, 18, in that order; 18 is never given. Sync bits never refuse a repair: the wrong ones are
  * counted. A repaired word need not be a message's: wspr_unpack turns it into its message, or refuses. */

@@ -483,12 +483,13 @@ static void hold_sent_word(const struct frame_input *f, uint32_t limit, wspr_rep
     }
 }
 
-/* What is promised of any symbols: the budget that is enough at a limit, and that no two words are as near. */
+/* What is promised of any symbols: the budget that is enough at a limit, and that 18 isn't given. */
 static void hold_never(uint32_t limit, uint32_t budget, wspr_repaired r)
 {
     static const uint32_t enough[] = {81, 131, 569, 3495, 17851};
 
-    hold(r.refusal != 16 || limit >= COUNT(enough) || budget < enough[limit], "a budget that is enough is");
+    hold(r.refusal != 16 || limit >= COUNT(enough) || budget < enough[limit],
+         "16 isn't given with a budget that is enough for every frame");
     hold(r.refusal != 18, "18 is never given");
 }
 

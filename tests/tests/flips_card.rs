@@ -1,7 +1,8 @@
-// Flipped data bits through the C interface: up to how many of them repair gives the sent word back,
-// in which band above the limit it gives no word at all, from how many on it may give another, and
-// how many prefixes they leave live. All this is proved for every frame; here a million of them are
-// held to it, frames between two words at the least distance, and four flips at limit 4.
+// Flipped data bits through the C interface: up to how many of them repair gives the sent word
+// back, in which band above the limit it gives no word at all, from how many on it may give
+// another, and how many prefixes they leave live. All this is proved for every frame; here a
+// million of them are held to it, frames between two words at the least distance, and four flips
+// at limit 4.
 use std::collections::BTreeSet;
 use std::iter;
 use std::ops::RangeInclusive;
@@ -30,18 +31,32 @@ const SHIFTS: u64 = 32;
 struct Received {
     sent: u64,
     flips: u32,
+    /// The word at the least distance towards which the flips were made, if they were.
+    towards: Option<u64>,
     sync_wrong: u32,
     frame: Frame,
 }
 
 impl Received {
-    /// The sent word's frame with its data bits flipped at these places. In one frame of four the
-    /// sync bits are garbage.
-    fn new(rng: &mut Rng, sent: u64, places: &[usize]) -> Received {
+    /// With the data bits flipped at these places. In one frame of four the sync bits are garbage.
+    fn with_flips_at(rng: &mut Rng, sent: u64, places: &[usize]) -> Received {
         let mut frame = flipped(frame_of(sent), places);
         let sync_wrong = if rng.below(4) == 0 { rng.below(FRAME_LEN as u64 + 1) } else { 0 };
         spoil_sync(rng, &mut frame, sync_wrong as usize);
-        Received { sent, flips: places.len() as u32, sync_wrong: sync_wrong as u32, frame }
+        let (flips, sync_wrong) = (places.len() as u32, sync_wrong as u32);
+        Received { sent, flips, towards: None, sync_wrong, frame }
+    }
+
+    /// With so many flips among the data bits in which the frame of another word differs; once they
+    /// are all flipped, others are.
+    fn with_flips_towards(rng: &mut Rng, sent: u64, other: u64, flips: u32) -> Received {
+        let differing = differing_places(&frame_of(sent), &frame_of(other));
+        assert_eq!(differing.len() as u32, LEAST_DISTANCE, "{sent:#x} {other:#x}");
+        let all = random_places(rng, FRAME_LEN).into_iter();
+        let (first, others): (Vec<_>, Vec<_>) = all.partition(|place| differing.contains(place));
+        let places = [first, others].concat();
+        let received = Received::with_flips_at(rng, sent, &places[..flips as usize]);
+        Received { towards: Some(other), ..received }
     }
 
     /// The answer that gives this word, with this live count.
@@ -52,32 +67,34 @@ impl Received {
         card::Repaired { refusal: 0, place: 0, word, disagreements, live, sync_wrong, margin }
     }
 
-    /// The largest live count that is promised: a clean frame's at the limit and the flips together,
-    /// or at twice the limit, whatever the flips.
+    /// The largest live count that is promised: a clean frame's at the limit and the flips
+    /// together, or at twice the limit, whatever the flips.
     fn most_live(&self, limit: u32) -> u64 {
         let clean_limit = limit + limit.min(self.flips);
         CLEAN.get(clean_limit as usize).copied().unwrap_or(u64::MAX)
     }
 
     /// Where the number of flips lies. The band is what is above the limit and, together with the
-    /// limit, below the least distance.
+    /// limit, below the least distance. After its last number towards another word, that word is
+    /// one flip away from being within the limit.
     fn kind(&self, limit: u32) -> &'static str {
         let last = LEAST_DISTANCE - 1 - limit;
         match self.flips {
             flips if flips <= limit => "within the limit",
             flips if flips == limit + 1 => "first of the band",
             flips if flips < last => "in the band",
+            flips if flips == last && self.towards.is_some() => "last of the band, towards a word",
             flips if flips == last => "last of the band",
             flips if flips == last + 1 => "first beyond",
             _ => "beyond",
         }
     }
 
-    /// Holds an answer to what is promised whatever the live count is. The sent word comes only from
-    /// flips within the limit, or `margin` panics. Another word takes more flips than it has
-    /// disagreements, and both make up the least distance: within the limit and in the band they are
-    /// too few for that. 17 takes more flips than the limit, and 16 a budget below the largest live
-    /// count that is promised. There is no other refusal: 18 least of all.
+    /// Holds an answer to what is promised whatever the live count is. The sent word comes only
+    /// from flips within the limit, or `margin` panics. Another word takes more flips than it has
+    /// disagreements, and 28 of both together: within the limit and in the band they are fewer. 17
+    /// takes more flips than the limit, and 16 a budget below the largest live count that is
+    /// promised. There is no other refusal: 18 never.
     fn hold(&self, limit: u32, budget: u32, found: card::Repaired) {
         let is_right = match found.refusal {
             0 => {
@@ -103,6 +120,7 @@ impl Received {
 const FRAMES_WITHIN: u64 = 400_000;
 const FRAMES_IN_BAND: u64 = 400_000;
 const FRAMES_BEYOND: u64 = 200_000;
+const _: () = assert!(FRAMES_WITHIN + FRAMES_IN_BAND + FRAMES_BEYOND == 1_000_000);
 
 /// Of a thousand frames, how many are repaired at each limit from 0 to 12. The time grows with the
 /// live count, more than twofold from one limit to the next, so high limits are drawn less often.
@@ -116,21 +134,30 @@ struct Check {
     rng: Rng,
     counts: Counts,
     frames_at: [u64; 13],
+    /// The limits, each with the numbers of flips of its frames.
+    flips_at: BTreeSet<(u32, u32)>,
     /// The limits, each with the refusal numbers that were answered at it, 0 for a word.
     refusals_at: BTreeSet<(u32, u32)>,
 }
 
 impl Check {
     fn new(seed: u64) -> Check {
-        let (counts, frames_at, refusals_at) = (Counts::new(), [0; 13], BTreeSet::new());
-        Check { rng: Rng::new(seed), counts, frames_at, refusals_at }
+        let (flips_at, refusals_at) = (BTreeSet::new(), BTreeSet::new());
+        Check {
+            rng: Rng::new(seed),
+            counts: Counts::new(),
+            frames_at: [0; 13],
+            flips_at,
+            refusals_at,
+        }
     }
 
     /// One frame of the million. The live count of one in four is taken from the independent
     /// implementation.
     fn hold_a_frame(&mut self, limit: u32, flips: u32) {
-        let received = any_received(&mut self.rng, flips);
+        let received = random_received(&mut self.rng, flips);
         self.frames_at[limit as usize] += 1;
+        self.flips_at.insert((limit, flips));
         if self.rng.below(4) == 0 {
             self.hold_around_the_live_count(&received, limit);
         } else {
@@ -161,7 +188,7 @@ impl Check {
 
     /// With the largest budget, with that which is enough at limit 4, or with any up to a clean
     /// frame's live count. Unless it is 16 the answer is the same as with the largest, and where it
-    /// is 16 and the largest gives the word, the live count is above the budget.
+    /// is 16 and the largest gives a word, the live count is above the budget.
     fn hold_at_some_budget(&mut self, received: &Received, limit: u32) {
         let small = self.rng.between(1, CLEAN[limit as usize].min(LARGEST_BUDGET.into())) as u32;
         let budget = self.rng.pick(&[LARGEST_BUDGET, ENOUGH_AT_LIMIT_4, small]);
@@ -174,20 +201,21 @@ impl Check {
         }
     }
 
-    /// Holds the test to so many frames, with no fewer at any limit than half of what is to be
-    /// drawn; to these refusal numbers, 0 for a word, at each of these limits; and to the kinds of
-    /// answers that it is meant to get.
+    /// Holds the test to no fewer frames at any limit than half of what is to be drawn; to so many
+    /// numbers of flips, at all limits together; to these refusal numbers, 0 for a word, at each of
+    /// these limits; and to the kinds of answers that it is meant to get.
     fn finish(
         self,
-        frames: u64,
+        flips_at: usize,
         at_limits: &[(u32, RangeInclusive<u32>)],
         at_least: &[(&'static str, u32, u64)],
     ) {
-        println!("{:?} {:?}", self.frames_at, self.refusals_at);
-        assert_eq!(self.frames_at.iter().sum::<u64>(), frames);
+        println!("{:?} {} {:?}", self.frames_at, self.flips_at.len(), self.refusals_at);
+        let frames: u64 = self.frames_at.iter().sum();
         for (limit, (seen, drawn)) in iter::zip(self.frames_at, DRAWN).enumerate() {
             assert!(seen >= frames * drawn / 1_000 / 2, "{seen} frames at limit {limit}");
         }
+        assert!(self.flips_at.len() >= flips_at, "{:?}", self.flips_at);
         for (refusal, limits) in at_limits {
             let is_seen = |limit: u32| self.refusals_at.contains(&(limit, *refusal));
             assert!(limits.clone().all(is_seen), "{refusal} wasn't seen at each of {limits:?}");
@@ -207,35 +235,23 @@ fn random_limit(rng: &mut Rng) -> u32 {
     limit as u32
 }
 
-/// A random word's frame with so many flips. Half of the frames have them anywhere; a quarter among
-/// the first coded bits, where they leave the fewest prefixes live, so that there are words at
-/// limits 10 and 11, too; and a quarter towards another word at the least distance, which is the
-/// first to be within the limit.
-fn any_received(rng: &mut Rng, flips: u32) -> Received {
+/// A random word's frame with so many flips: in two frames of three anywhere, in one towards
+/// another word at the least distance, as no other is within the limit after fewer flips.
+fn random_received(rng: &mut Rng, flips: u32) -> Received {
     let sent = random_word(rng);
-    let preferred = match rng.below(4) {
-        0 => places().take(flips as usize).collect(),
-        1 => differing_places(&frame_of(sent), &frame_of(sent ^ LIGHTEST << rng.below(SHIFTS))),
-        _ => vec![],
-    };
-    let places = random_places_among(rng, &preferred, flips as usize);
-    Received::new(rng, sent, &places)
-}
-
-/// So many different places of a frame: the preferred ones, and others only once these are all
-/// taken.
-fn random_places_among(rng: &mut Rng, preferred: &[usize], count: usize) -> Vec<usize> {
-    let all = random_places(rng, FRAME_LEN).into_iter();
-    let (mut chosen, others): (Vec<_>, Vec<_>) = all.partition(|place| preferred.contains(place));
-    chosen.extend(others);
-    chosen.truncate(count);
-    chosen
+    if rng.below(3) == 0 {
+        let other = sent ^ LIGHTEST << rng.below(SHIFTS);
+        Received::with_flips_towards(rng, sent, other, flips)
+    } else {
+        let places = random_places(rng, flips as usize);
+        Received::with_flips_at(rng, sent, &places)
+    }
 }
 
 /// As many flips as the limit or fewer: the sent word with the flips as its disagreements and what
 /// they leave to limit + 1 as its margin, exactly where the live count is within the budget, and 16
-/// where it isn't. Every number of flips from none to the limit is drawn at every limit. No frame is
-/// known whose word is given at limit 12: the live counts are all above the largest budget.
+/// where it isn't. Every number of flips within every limit is drawn. At limit 12 all are refused,
+/// as no frame was found whose live count there is within the largest budget.
 #[test]
 fn flips_within_the_limit_give_the_sent_word() {
     let mut check = Check::new(1);
@@ -245,17 +261,16 @@ fn flips_within_the_limit_give_the_sent_word() {
         check.hold_a_frame(limit, flips);
     }
     let at_limits = [(0, 0..=11), (16, 0..=12)];
-    check.finish(
-        FRAMES_WITHIN,
-        &at_limits,
-        &[("within the limit", 0, 400_000), ("within the limit", 16, 150_000)],
-    );
+    let kinds = [("within the limit", 0, 400_000), ("within the limit", 16, 150_000)];
+    let numbers_of_flips = (0..=12).map(|limit| limit + 1).sum();
+    check.finish(numbers_of_flips, &at_limits, &kinds);
 }
 
 /// More flips than the limit, and fewer than 28 together with it: no word ever, but 17, or 16 where
-/// the live count is above the budget. A third of the frames is at either end of this band, since a
-/// limit or a least distance that is off by one shows there: one flip more than the limit, from
-/// which the sent word would come, and 27 flips less the limit, from which another would.
+/// the live count is above the budget. Every such number of flips is drawn. Two thirds of the
+/// frames are at the ends of this band, where a limit or a least distance that is off by one shows:
+/// one flip more than the limit, from which the sent word would come, and 27 flips less the limit,
+/// from which another would.
 #[test]
 fn flips_in_the_band_above_the_limit_give_no_word() {
     let mut check = Check::new(2);
@@ -267,23 +282,23 @@ fn flips_in_the_band_above_the_limit_give_no_word() {
         check.hold_a_frame(limit, flips);
     }
     let at_limits = [(17, 0..=11), (16, 0..=12)];
-    check.finish(
-        FRAMES_IN_BAND,
-        &at_limits,
-        &[
-            ("first of the band", 16, 40_000),
-            ("first of the band", 17, 150_000),
-            ("in the band", 16, 30_000),
-            ("in the band", 17, 150_000),
-            ("last of the band", 16, 30_000),
-            ("last of the band", 17, 150_000),
-        ],
-    );
+    let kinds = [
+        ("first of the band", 16, 40_000),
+        ("first of the band", 17, 150_000),
+        ("in the band", 16, 30_000),
+        ("in the band", 17, 150_000),
+        ("last of the band", 16, 20_000),
+        ("last of the band", 17, 100_000),
+        ("last of the band, towards a word", 16, 10_000),
+        ("last of the band, towards a word", 17, 50_000),
+    ];
+    let numbers_of_flips = (0..=12).map(|limit| 27 - 2 * limit).sum();
+    check.finish(numbers_of_flips, &at_limits, &kinds);
 }
 
 /// 28 flips less the limit, a few more, and now and then any number up to all 162: another word may
-/// come, but only such as has fewer disagreements than there are flips, and 28 or more together with
-/// them. It does come where the flips are those to a word at the least distance.
+/// come, but only such as has fewer disagreements than there are flips, and 28 or more together
+/// with them. It does come where the flips were made towards it.
 #[test]
 fn flips_beyond_the_band_give_only_words_that_far_away() {
     let mut check = Check::new(3);
@@ -295,19 +310,16 @@ fn flips_beyond_the_band_give_only_words_that_far_away() {
         let flips = check.rng.pick(&[first, first, above, above, any]);
         check.hold_a_frame(limit, flips);
     }
-    let at_limits = [(0, 0..=10), (17, 0..=11), (16, 0..=12)];
-    check.finish(
-        FRAMES_BEYOND,
-        &at_limits,
-        &[
-            ("first beyond", 0, 20_000),
-            ("first beyond", 16, 20_000),
-            ("first beyond", 17, 70_000),
-            ("beyond", 0, 10_000),
-            ("beyond", 16, 25_000),
-            ("beyond", 17, 130_000),
-        ],
-    );
+    let at_limits = [(0, 0..=11), (17, 0..=11), (16, 0..=12)];
+    let kinds = [
+        ("first beyond", 0, 20_000),
+        ("first beyond", 16, 20_000),
+        ("first beyond", 17, 60_000),
+        ("beyond", 0, 10_000),
+        ("beyond", 16, 25_000),
+        ("beyond", 17, 120_000),
+    ];
+    check.finish(1_500, &at_limits, &kinds);
 }
 
 // Between two words at the least distance
@@ -320,10 +332,10 @@ fn lightest_words() -> Vec<u64> {
 }
 
 /// From a random word's frame to that of another at the least distance, by all numbers of flips
-/// among the 28 data bits in which they differ, at limits 0 to 9. Up to the limit the sent word comes
-/// back, from 28 flips less the limit on the other one comes, and between them none does. So the band
-/// is as wide as is promised and no wider: at each of these limits its last number of flips gives no
-/// word, and one flip more the wrong one.
+/// among the 28 data bits in which they differ, at limits 0 to 9. Up to the limit the sent word
+/// comes back, from 28 flips less the limit on the other one comes, and between them none does. So
+/// the band is as wide as is promised and no wider: at each of these limits its last number of
+/// flips gives no word, and one flip more gives the wrong one.
 #[test]
 fn between_words_at_the_least_distance_the_band_ends_where_it_is_promised() {
     let mut rng = Rng::new(4);
@@ -333,14 +345,12 @@ fn between_words_at_the_least_distance_the_band_ends_where_it_is_promised() {
     for lightest in words.repeat(2) {
         let sent = random_word(&mut rng);
         let other = sent ^ lightest;
-        let differing = differing_places(&frame_of(sent), &frame_of(other));
-        assert_eq!(differing.len() as u32, LEAST_DISTANCE, "{sent:#x} {other:#x}");
         for flips in 0..=LEAST_DISTANCE {
-            let places = random_places_among(&mut rng, &differing, flips as usize);
-            let received = Received::new(&mut rng, sent, &places);
+            let received = Received::with_flips_towards(&mut rng, sent, other, flips);
             for limit in 0..=9 {
                 let found = repaired_between(&received, other, limit);
-                let (is_last, is_next) = (limit + flips == 27, limit + flips == 28);
+                let is_last = flips == LEAST_DISTANCE - 1 - limit;
+                let is_next = flips == LEAST_DISTANCE - limit;
                 no_word[limit as usize] += u32::from(is_last && found.refusal == 17);
                 wrong_word[limit as usize] += u32::from(is_next && found.word == other);
             }
@@ -361,14 +371,14 @@ fn repaired_between(received: &Received, other: u64, limit: u32) -> card::Repair
         flips if LEAST_DISTANCE - flips <= limit => received.given(other, live as u32, limit),
         _ => refused(17, 0),
     };
-    assert_eq!(found, expected, "{other:#x}, limit {limit}: {received:?}");
+    assert_eq!(found, expected, "limit {limit}: {received:?}");
     found
 }
 
 // Four flips at limit 4
 
-/// The largest live count at limit 4 that four flips leave. All the 27,646,920 sets of four data bits
-/// were tried once, by the library and by the independent implementation; the word makes no
+/// The largest live count at limit 4 that four flips leave. All the 27,646,920 sets of four data
+/// bits were tried once, by the library and by the independent implementation; the word makes no
 /// difference.
 const MOST_LIVE_AFTER_FOUR: u32 = 598;
 
@@ -376,7 +386,7 @@ const MOST_LIVE_AFTER_FOUR: u32 = 598;
 /// word back. Its live count.
 fn live_after_four(rng: &mut Rng, four: &[usize], budget: u32) -> u32 {
     let sent = random_word(rng);
-    let received = Received::new(rng, sent, four);
+    let received = Received::with_flips_at(rng, sent, four);
     let found = card::repair(&received.frame, 4, budget);
     received.hold(4, budget, found);
     let answer = (found.refusal, found.word, found.disagreements, found.margin);
@@ -392,6 +402,7 @@ fn worst_places(count: usize) -> Vec<usize> {
     let live = |place: usize| live_count(&flipped(frame_of(0), &[place]), 4);
     let mut worst: Vec<_> = (0..FRAME_LEN).map(|place| (live(place), place)).collect();
     worst.retain(|&(live, _)| live != CLEAN[4]);
+    assert_eq!(worst.len(), FRAME_LEN - 55);
     worst.sort();
     worst.into_iter().rev().take(count).map(|(_, place)| place).collect()
 }
@@ -408,16 +419,17 @@ fn sets_of_four(places: &[usize]) -> Vec<[usize; 4]> {
     sets
 }
 
-/// Every set of four among the 36 worst places, each in another random word's frame. With the set
-/// that leaves the most prefixes live, as the independent implementation counts them, just so large
-/// a budget gives the word, and with one less it is refused 16. These are the middle coded bits, from
-/// 71 to 106: earlier flips leave fewer prefixes live, and later ones change little.
+/// Every set of four among the 36 worst places, each in another random word's frame. The set that
+/// leaves the most prefixes live leaves as many as the independent implementation counts; just so
+/// large a budget gives the word, and one less is refused 16. The places are those of the middle
+/// coded bits, from 71 to 106: earlier flips leave fewer prefixes live, and later ones change
+/// little.
 #[test]
 fn every_four_flips_at_the_worst_places_are_repaired_at_limit_4() {
     let mut rng = Rng::new(5);
     let worst = worst_places(36);
-    let coded: BTreeSet<usize> = places().skip(71).take(36).collect();
-    assert_eq!(worst.iter().copied().collect::<BTreeSet<_>>(), coded);
+    let middle: BTreeSet<usize> = places().skip(71).take(36).collect();
+    assert_eq!(worst.iter().copied().collect::<BTreeSet<_>>(), middle);
     let sets = sets_of_four(&worst);
     assert_eq!(sets.len(), 58_905);
     let live = sets.iter().map(|four| (live_after_four(&mut rng, four, LARGEST_BUDGET), four));
@@ -430,22 +442,22 @@ fn every_four_flips_at_the_worst_places_are_repaired_at_limit_4() {
     assert_eq!(card::repair(&frame, 4, most - 1), refused(16, 0));
 }
 
-/// Every four data bits in a row, in the order in which they are coded, where a burst hits what the
-/// search compares one after the other, and in the order in which they are sent, as a fade hits them.
-/// Each is flipped in 20 random words' frames.
+/// Every four data bits in a row, each row in 20 random words' frames: in the order in which they
+/// are coded, where the search meets them one after the other, and in the order in which they are
+/// sent, where a fade would hit them.
 #[test]
 fn four_flips_in_a_row_are_repaired_at_limit_4() {
     let mut rng = Rng::new(6);
     let orders: [Vec<usize>; 2] = [places().collect(), (0..FRAME_LEN).collect()];
     let rows: Vec<_> = orders.iter().flat_map(|order| order.windows(4)).collect();
     assert_eq!(rows.len(), 2 * 159);
-    for four in rows.iter().cycle().take(20 * rows.len()) {
+    for four in rows.repeat(20) {
         live_after_four(&mut rng, four, ENOUGH_AT_LIMIT_4);
     }
 }
 
-/// A hundred thousand sets of four anywhere in a frame, with budgets from the least that is promised
-/// to be enough to the largest.
+/// A hundred thousand sets of four anywhere in a frame, with budgets from the least that is
+/// promised to be enough to the largest.
 #[test]
 fn any_four_flips_are_repaired_at_limit_4() {
     let mut rng = Rng::new(7);

@@ -5,6 +5,7 @@ use wsprcard_tests::answers::{
 };
 use wsprcard_tests::card;
 use wsprcard_tests::counts::Counts;
+use wsprcard_tests::facts::LEAST_DISTANCE;
 use wsprcard_tests::inputs::{
     bad_character, bad_power, bad_symbol, bad_word, capital_form, edge_words, field_lengths,
     is_legal, legal_bytes, message_in_any_case, message_in_small_letters, message_of,
@@ -446,8 +447,8 @@ fn a_frame_with_one_or_two_flipped_data_bits_is_refused() {
     check.finish(&[("read_word", 9, 2 * (162 + 162 * 161 / 2))]);
 }
 
-/// Frames of different words differ in six data bits or more, so up to five flips can't give
-/// the frame of another word. That more of them do is too rare to be met here.
+/// Frames of different words differ in 28 data bits or more, so up to 27 flips can't give the frame
+/// of another word. That more of them do is too rare to be met here.
 #[test]
 fn frames_with_flipped_data_bits_are_refused() {
     let mut check = Check::new(12);
@@ -458,7 +459,7 @@ fn frames_with_flipped_data_bits_are_refused() {
                 frame[place] ^= 2;
             }
             let found = check.read_word(&frame);
-            if count <= 5 {
+            if count < LEAST_DISTANCE as usize {
                 assert_eq!(found, refused_word(9, 0), "{count} flips to {frame:?}");
             }
         }

@@ -64,7 +64,8 @@ fn the_texts_say_what_follows_from_the_counts() {
          {LARGEST_BUDGET}, the largest, a clean frame is answered at limits up to {last}, and at \
          limits {} to 12 with none. So use limits up to {last}. No frame, whatever was received, \
          has a live count above that of a clean frame at twice the limit: so a budget of {} is \
-         enough for every frame at limit 2, and one of {} at limit 4.",
+         enough for every frame at limit 2, and one of {} at limit 4. This is proved; at limits \
+         from 5 on no budget is proved to be enough for every frame.",
         last + 1,
         counts[2 * 2],
         counts[2 * 4]

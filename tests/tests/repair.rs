@@ -488,8 +488,8 @@ fn two_flips_of_any_word_are_repaired_at_limit_2() {
     check.finish(&[("repair", 0, 20_000)]);
 }
 
-/// Every way of flipping three data bits of a frame. What is live at limit 2 is then within five
-/// of the sent word, so a budget of a clean frame's live count at limit 5 is never passed.
+/// Every way of flipping three data bits of a frame. No frame has more live prefixes at limit 2
+/// than a clean one at limit 4, so a budget of that count is never passed.
 #[test]
 fn three_flips_are_refused_at_limit_2() {
     let mut check = Check::new(12);
@@ -498,7 +498,7 @@ fn three_flips_are_refused_at_limit_2() {
         for second in 0..first {
             for third in 0..second {
                 let places = [first, second, third];
-                let found = check.repair(&flipped(frame, &places), 2, CLEAN[5] as u32);
+                let found = check.repair(&flipped(frame, &places), 2, CLEAN[4] as u32);
                 assert_eq!(found, refused(17, 0), "{places:?}");
             }
         }

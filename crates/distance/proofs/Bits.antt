@@ -157,11 +157,6 @@ differences-sym [] (y ∷ ys) = refl
 differences-sym (x ∷ xs) [] = refl
 differences-sym (x ∷ xs) (y ∷ ys) = rw (unlike-sym x y, differences-sym xs ys)
 
-pub differences-none : (xs : List ℕ) → differences xs xs ≡ 0
-unfolding differences
-differences-none [] = refl
-differences-none (x ∷ xs) = rw (alike x x refl, differences-none xs)
-
 -- Lists of the same length without any are the same.
 pub differences-zero : (xs ys : List ℕ) → length xs ≡ length ys → differences xs ys ≡ 0 → xs ≡ ys
 unfolding differences

@@ -96,7 +96,7 @@ codedBits-zero = refl
 own-bits : (word : ℕ) → summed (codedBits word) zeroBits ≡ codedBits word
 own-bits word = summed-unchanged 162 (codedBits word) (bits-codedBits word) (omega (arith, length-codedBits word))
 
-pub liveOf-clean : (word limit k : ℕ) → k ≤ 81 → liveOf (codedBits word) limit k ≡ liveOf zeroBits limit k
+liveOf-clean : (word limit k : ℕ) → k ≤ 81 → liveOf (codedBits word) limit k ≡ liveOf zeroBits limit k
 liveOf-clean word limit k h =
     ap (λ (r : List ℕ). liveOf r limit k) (sym (own-bits word)) ∙ liveOf-recentred word zeroBits (bits-zeros 162) limit k h
 

@@ -30,7 +30,7 @@ step after register received limit bit =
 -- ---- The tree
 
 -- How many prefixes that are k bits longer are live, where the next `free` bits may be 0 or 1 and the others are 0.
-unfoldable pub level : ℕ → ℕ → ℕ → List ℕ → ℕ → ℕ
+unfoldable level : ℕ → ℕ → ℕ → List ℕ → ℕ → ℕ
 level zero free register received limit = 1
 level (suc k) zero register received limit = step (level k zero) register received limit 0
 level (suc k) (suc free) register received limit =
@@ -189,7 +189,7 @@ level-counted (suc k) (suc free) (suc m) j e f register received limit =
     (begin-level m k free rest longer register received limit 0)
     (begin-level m k free rest longer register received limit 1)
 
-pub liveOf-level : (received : List ℕ) (limit k : ℕ) → liveOf received limit k ≡ level k 50 0 received limit
+liveOf-level : (received : List ℕ) (limit k : ℕ) → liveOf received limit k ≡ level k 50 0 received limit
 unfolding liveOf prefixesOf prefixBits freeOf isLive disagreements further
 liveOf-level received limit k =
     count-by-bits (freeOf k) (λ bits. isLive received limit (bits ++ replicate (k - freeOf k) 0))

@@ -65,7 +65,8 @@ module _ (word : ℕ) where
 differences-sum : (v w : ℕ) → differences (codedBits v) (codedBits w) ≡ differences (codedBits (bitXor v w)) zeroBits
 differences-sum v w =
     let size : length (codedBits v) ≡ length (codedBits w) = length-codedBits v ∙ sym (length-codedBits w) in
-    let none : summed (codedBits w ++ []) (codedBits w) ≡ zeroBits = rw (append-nil (codedBits w)) (summed-same 162 (codedBits w) (length-codedBits w)) in
+    let none : summed (codedBits w ++ []) (codedBits w) ≡ zeroBits =
+    rw (append-nil (codedBits w)) (summed-same 162 (codedBits w) (length-codedBits w)) in
     sym (differences-summed (codedBits v) (codedBits w) [] (codedBits w) size (bits-codedBits v) (bits-codedBits w) (bits-codedBits w))
     ∙ rw (none, ← codedBits-sum v w)
 

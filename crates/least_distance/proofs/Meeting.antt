@@ -47,8 +47,8 @@ never-met x = nothing-common 30 x departed arriving none-met
 departs : (bits : List ℕ) → AllBits bits → length bits ≤ 81 → weightOf onward 1 bits ≤ 11 → In (newest (endOf onward 1 bits)) departed
 departs bits are-bits short light = one-reached onward onwardCounts onwardResponse onward-running newest 81 11 bits [] are-bits short light
 
-arrives : (state : ℕ) (bits : List ℕ) → state < 2 ^ 31 → AllBits bits → length bits ≤ 81 → endOf onward state bits ≡ 0 → weightOf onward state bits ≤ 13
-    → In (oldest state) arriving
+arrives : (state : ℕ) (bits : List ℕ) → state < 2 ^ 31 → AllBits bits → length bits ≤ 81 → endOf onward state bits ≡ 0
+    → weightOf onward state bits ≤ 13 → In (oldest state) arriving
 arrives state bits small are-bits short returns light =
     let back = turned state bits small are-bits in
     let leads : endOf backward 0 (back .back) ≡ state = rw returns at (back .leads-back) in
@@ -58,13 +58,15 @@ arrives state bits small are-bits short returns light =
     (omega (arith, back .as-long)) (omega arith))
 
 -- A path from a first 1 to the zero state.
-module _ (bits : List ℕ) (are-bits : AllBits bits) (short : length bits ≤ 81) (returns : endOf onward 1 bits ≡ 0) (light : weightOf onward 1 bits ≤ 25) where
-  -- It isn't all within weight 13: the zero state is never departed to.
+module _ (bits : List ℕ) (are-bits : AllBits bits) (short : length bits ≤ 81) (returns : endOf onward 1 bits ≡ 0)
+    (light : weightOf onward 1 bits ≤ 25) where
+  -- It isn't all within weight 13: it would end in the zero state, to which the first 1 leads at no such weight.
   not-within : weightOf onward 1 bits ≤ 11 → ⊥
   unfolding In
   not-within within =
       never-met 0 (rw returns at (departs bits are-bits short within))
-      (reached-keeps backward backwardCounts backwardResponse backward-running oldest 0 81 11 (backward .to 0 1) backwardResponse (0 ∷ []) (inr (inl refl)))
+      (reached-keeps backward backwardCounts backwardResponse backward-running oldest 0 81 11 (backward .to 0 1) backwardResponse (0 ∷ [])
+      (inr (inl refl)))
 
   -- And it isn't cut where it gets heavier, either.
   not-cut : Cut onward 1 11 bits → ⊥

@@ -58,12 +58,15 @@ module _ (register : ℕ) where
   one-counted : countsOf (clocked register 1) ≡ countsOf register / 4_096 + onwardResponse
   one-counted = ap onwardCounts (next-state register 1 (omega arith)) ∙ onward-running .one-next (register % 2 ^ 31) (omega arith)
 
-  cost-counted : (x y : ℕ) (received : List ℕ) → x < 2 → y < 2 → stepCost (x ∷ y ∷ received) (clocked register 0) ≡ countedCost (countsOf register) x y
+  cost-counted : (x y : ℕ) (received : List ℕ) → x < 2 → y < 2
+      → stepCost (x ∷ y ∷ received) (clocked register 0) ≡ countedCost (countsOf register) x y
   unfolding stepCost differences
   cost-counted x y received h k =
       let state = register % 2 ^ 31 in
       let counts = countsOf register in
-      rw (clocked-state register 0 (omega arith), onward-first-coded state (omega arith) 0 (omega arith), onward-second-coded state (omega arith) 0 (omega arith))
+      let first = onward-first-coded state (omega arith) 0 (omega arith) in
+      let second = onward-second-coded state (omega arith) 0 (omega arith) in
+      rw (clocked-state register 0 (omega arith), first, second)
       (omega (arith, unlike-sum counts x h, unlike-sum (counts / 64) y k))
 
   -- What is counted from a bit on, where so much of the limit and one more is left after it.

@@ -135,7 +135,8 @@ unfolding cleanCount
 two-flips-repaired frame limit budget two enough right word h few =
     let bounds : Bounds 2 16_000 = record { limit-to-12 = omega arith; budget-from-1 = omega arith; budget-to-65536 = omega arith } in
     rw (two, enough)
-    (flips-repaired frame 2 16_000 right bounds word h few .1 (omega (arith, any-most (receivedBits frame) 2 (length-receivedBits frame) (omega arith))))
+    (flips-repaired frame 2 16_000 right bounds word h few .1
+    (omega (arith, any-most (receivedBits frame) 2 (length-receivedBits frame) (omega arith))))
 
 -- Four at most, at limit 4.
 pub four-flips-repaired : (frame : List ℕ) (limit budget : ℕ) → FourFlipsRepaired frame limit budget (frameRepaired frame limit budget)

@@ -35,7 +35,8 @@ flips-differences word frame = flips-disagreements word frame ∙ word-disagreem
 
 -- ---- No flip
 
-clean-frame-count : (word : ℕ) (frame : List ℕ) (limit : ℕ) → flips word frame ≡ 0 → limit ≤ 10 → liveCount (receivedBits frame) limit ≡ cleanCount limit
+clean-frame-count : (word : ℕ) (frame : List ℕ) (limit : ℕ) → flips word frame ≡ 0 → limit ≤ 10
+    → liveCount (receivedBits frame) limit ≡ cleanCount limit
 clean-frame-count word frame limit none h =
     let size : length (codedBits word) ≡ length (receivedBits frame) = length-codedBits word ∙ sym (length-receivedBits frame) in
     let same : codedBits word ≡ receivedBits frame =
@@ -84,7 +85,8 @@ module _ (word : ℕ) (frame : List ℕ) (right : RightSymbols frame) (one : fli
 
 -- ---- More flips, and any frame
 
-flips-count : (word : ℕ) (frame : List ℕ) (limit : ℕ) → limit + flips word frame ≤ 10 → liveCount (receivedBits frame) limit ≤ cleanCount (limit + flips word frame)
+flips-count : (word : ℕ) (frame : List ℕ) (limit : ℕ) → limit + flips word frame ≤ 10
+    → liveCount (receivedBits frame) limit ≤ cleanCount (limit + flips word frame)
 flips-count word frame limit h =
     let same = flips-disagreements word frame in
     rw same (flipped-most (receivedBits frame) word limit (length-receivedBits frame) (omega arith))

@@ -1,5 +1,6 @@
 -- Flipped data bits: how many there are; in how many the frames of two words differ; that flips within the limit are repaired (demand 3 says
--- it of two), and more are not turned into a word (02, L14 says it of three); and how many a word other than the sent one takes.
+-- it of two), and that more are not turned into a word as long as flips and limit together are fewer than frames differ in (02, L14 says it
+-- of three); that no two words are within a limit; and how many flips a word other than the sent one takes.
 use mathlib.Core.Path.{_≡_}
 use mathlib.Core.Logic.{_↔_}
 use Prim.Native.Nat.{ℕ, _+_, _-_, _^_, _≤_, _<_}

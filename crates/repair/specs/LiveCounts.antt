@@ -30,7 +30,7 @@ pub record OneFlipCount (word : ℕ) (frame : List ℕ) (live : ℕ) : Type 0 wh
 
 -- "a clean frame has live count 81 at limits 0 and 1 and exactly 131 at limit 2" is `cleanCount`, to limit 10. "Show it of the count as
 -- defined, for every word": and whatever became of the sync bits. With flips the count is at most that of a clean frame at a limit that is
--- greater by as many.
+-- greater by as many, where that is 10 at most.
 abbrev pub CountsByFlips : Type 0
 CountsByFlips =
     (frame : List ℕ) → RightSymbols frame → (word : ℕ) → word < 2 ^ 50
@@ -38,7 +38,7 @@ CountsByFlips =
     × ((flips word frame ≡ 1 → OneFlipCount word frame (liveCount (receivedBits frame) 2))
     × ((limit : ℕ) → limit + flips word frame ≤ 10 → liveCount (receivedBits frame) limit ≤ cleanCount (limit + flips word frame)))
 
--- Whatever was received, noise too: at most as many as on a clean frame at twice the limit.
+-- Whatever was received, noise too, at limits up to 5: at most as many as on a clean frame at twice the limit.
 abbrev pub CountsOfAny : Type 0
 CountsOfAny = (frame : List ℕ) (limit : ℕ) → limit ≤ 5 → liveCount (receivedBits frame) limit ≤ cleanCount (limit + limit)
 
@@ -67,7 +67,8 @@ OneFlipRepaired frame limit budget answer =
     limit ≡ 2 → Bounds limit budget → RightSymbols frame → (word : ℕ) → word < 2 ^ 50 → flips word frame ≡ 1
     → OneFlipAnswered word frame budget answer
 
--- On any symbols, at limits up to 4: with a budget of that count, 569 at limit 2 and 17,851 at limit 4, 16 is never given.
+-- On any symbols, at limits up to 4: with a budget of a clean frame's count at twice the limit or more, so 569 at limit 2 and 17,851 at limit
+-- 4, 16 is never given.
 abbrev pub NeverOverBudget : ℕ → ℕ → RepairAnswer → Type 0
 NeverOverBudget limit budget answer =
     limit ≤ 4 → cleanCount (limit + limit) ≤ budget → (place : ℕ) → answer ≡ RepairAnswer.Refused (refusal overBudget place) → ⊥

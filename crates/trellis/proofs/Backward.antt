@@ -1,4 +1,5 @@
--- The counts that are kept backwards: the state goes out under the masks, a place with each step.
+-- The counts that are kept backwards: digit i says in how many places each mask meets the state moved down by i places, as it will i steps
+-- back if zeros are taken up.
 use mathlib.Core.Path.{_≡_, refl, sym, ap, _∙_}
 use Prim.Native.Nat.{ℕ, zero, suc, _+_, _*_, _/_, _%_, _^_, _<_}
 use native.Mathlib.Nat.{pow-suc}
@@ -11,10 +12,12 @@ use Rattle.convolution.proofs.CodeLaws.{ones-and}
 use Rattle.trellis.proofs.States.{registerWeight, backward}
 use Rattle.trellis.proofs.Running.{paired, meeting, zeroWeight, Running, digit-dropped, digit-first, digit-second, lowest-added, both-other, meets-below}
 
+-- The first k digits.
 unfoldable pub behind : ℕ → ℕ → ℕ
 behind zero state = 0
 behind (suc k) state = meeting firstMask secondMask state + 4_096 * behind k (state / 2)
 
+-- What a bit 1 adds to them, as the highest of k bits.
 unfoldable pub behindResponse : ℕ → ℕ
 behindResponse zero = 0
 behindResponse (suc k) = paired (firstMask / 2 ^ k % 2) (secondMask / 2 ^ k % 2) + 4_096 * behindResponse k
@@ -36,7 +39,8 @@ meets-higher (suc k) state mask h =
     let lowest : (state + 2 ^ suc k) % 2 ≡ state % 2 = omega (arith, pow-suc 2 k) in
     let longer : suc k ≡ 1 + k = omega arith in
     let there : mask / 2 / 2 ^ k ≡ mask / 2 ^ suc k = rw longer (shr-shr mask 1 k) in
-    rw (ones-and (state + 2 ^ suc k) mask, half, lowest, meets-higher k (state / 2) (mask / 2) (omega (arith, pow-suc 2 k)), ones-and state mask, there)
+    let higher = meets-higher k (state / 2) (mask / 2) (omega (arith, pow-suc 2 k)) in
+    rw (ones-and (state + 2 ^ suc k) mask, half, lowest, higher, ones-and state mask, there)
     (omega arith)
 
 behind-higher : (i k state : ℕ) → i < k → state < 2 ^ i → behind k (state + 2 ^ i) ≡ behind k state + behindResponse (suc i)

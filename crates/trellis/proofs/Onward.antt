@@ -1,4 +1,5 @@
--- The counts that are kept forwards: the masks go on over the state, a place with each step.
+-- The counts that are kept forwards: digit i says in how many places the state meets each mask moved down by i places, as it will i steps on
+-- if zeros follow.
 use mathlib.Core.Path.{_≡_, refl, sym, ap, _∙_}
 use Prim.Native.Nat.{ℕ, zero, suc, _+_, _*_, _/_, _%_, _^_, _<_, min}
 use native.Mathlib.Nat.{pow-suc}
@@ -10,15 +11,17 @@ use Rattle.convolution.proofs.CodeLaws.{first-odd, second-odd, ones-and}
 use Rattle.trellis.proofs.States.{registerWeight, onward}
 use Rattle.trellis.proofs.Running.{paired, meeting, Running, digit-dropped, digit-first, digit-second, lowest-added, none-more, both-other, meets-below}
 
+-- The first k digits.
 unfoldable pub ahead : ℕ → ℕ → ℕ → ℕ → ℕ
 ahead zero first second state = 0
 ahead (suc k) first second state = meeting first second state + 4_096 * ahead k (first / 2) (second / 2) state
 
+-- What a bit 1 adds to them.
 unfoldable pub aheadResponse : ℕ → ℕ → ℕ → ℕ
 aheadResponse zero first second = 0
 aheadResponse (suc k) first second = paired (first % 2) (second % 2) + 4_096 * aheadResponse k (first / 2) (second / 2)
 
--- What the older bits of a register give, without its newest.
+-- A mask without its lowest bit, which the newest bit meets.
 abbrev pub older : ℕ → ℕ
 older mask = mask / 2
 

@@ -80,7 +80,7 @@ digit-second first second rest h =
     let next : (paired first second + 4_096 * rest) / 64 ≡ second + 64 * rest = omega arith in
     rw next (omega arith)
 
--- So with a bit that is added to both.
+-- Equal lowest bits stay equal with a bit added to both.
 pub lowest-added : (bit m n : ℕ) → m % 2 ≡ n % 2 → (bit + m) % 2 ≡ (bit + n) % 2
 lowest-added bit m n e = omega arith
 

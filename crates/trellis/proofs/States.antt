@@ -36,7 +36,7 @@ clocked-state register bit h = omega arith
 pub next-state : (register bit : ℕ) → bit < 2 → clocked register bit % 2 ^ 31 ≡ (register % 2 ^ 31 * 2 + bit) % 2 ^ 31
 next-state register bit h = ap (λ (n : ℕ). n % 2 ^ 31) (clocked-state register bit h)
 
--- A path weighs as many as its coded bits differ from zeros in.
+-- A path's weight is the number of places in which its coded bits differ from zeros.
 pub weight-coded : (n register : ℕ) (bits : List ℕ) → AllBits bits → 2 * length bits ≤ n
     → differences (codedFrom register register bits) (replicate n 0) ≡ weightOf onward (register % 2 ^ 31) bits
 unfolding AllBits differences codedFrom weightOf registerWeight
