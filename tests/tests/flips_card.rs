@@ -134,6 +134,7 @@ struct Check {
     rng: Rng,
     counts: Counts,
     frames_at: [u64; 13],
+    frames_with_wrong_sync: u64,
     /// The limits, each with the numbers of flips of its frames.
     flips_at: BTreeSet<(u32, u32)>,
     /// The limits, each with the refusal numbers that were answered at it, 0 for a word.
@@ -147,6 +148,7 @@ impl Check {
             rng: Rng::new(seed),
             counts: Counts::new(),
             frames_at: [0; 13],
+            frames_with_wrong_sync: 0,
             flips_at,
             refusals_at,
         }
@@ -157,6 +159,7 @@ impl Check {
     fn hold_a_frame(&mut self, limit: u32, flips: u32) {
         let received = random_received(&mut self.rng, flips);
         self.frames_at[limit as usize] += 1;
+        self.frames_with_wrong_sync += u64::from(received.sync_wrong > 0);
         self.flips_at.insert((limit, flips));
         if self.rng.below(4) == 0 {
             self.hold_around_the_live_count(&received, limit);
@@ -201,20 +204,23 @@ impl Check {
         }
     }
 
-    /// Holds the test to no fewer frames at any limit than half of what is to be drawn; to so many
-    /// numbers of flips, at all limits together; to these refusal numbers, 0 for a word, at each of
-    /// these limits; and to the kinds of answers that it is meant to get.
+    /// Holds the test to no fewer frames at any limit than half of what is to be drawn; to wrong
+    /// sync bits in a fifth of them; to so many numbers of flips, at all limits together; to these
+    /// refusal numbers, 0 for a word, at each of these limits; and to the kinds of answers that it
+    /// is meant to get.
     fn finish(
         self,
         flips_at: usize,
         at_limits: &[(u32, RangeInclusive<u32>)],
         at_least: &[(&'static str, u32, u64)],
     ) {
-        println!("{:?} {} {:?}", self.frames_at, self.flips_at.len(), self.refusals_at);
+        println!("{:?} {}", self.frames_at, self.frames_with_wrong_sync);
+        println!("{} {:?}", self.flips_at.len(), self.refusals_at);
         let frames: u64 = self.frames_at.iter().sum();
         for (limit, (seen, drawn)) in iter::zip(self.frames_at, DRAWN).enumerate() {
             assert!(seen >= frames * drawn / 1_000 / 2, "{seen} frames at limit {limit}");
         }
+        assert!(5 * self.frames_with_wrong_sync >= frames, "{}", self.frames_with_wrong_sync);
         assert!(self.flips_at.len() >= flips_at, "{:?}", self.flips_at);
         for (refusal, limits) in at_limits {
             let is_seen = |limit: u32| self.refusals_at.contains(&(limit, *refusal));
