@@ -21,13 +21,15 @@ unfoldable pub halved : List ℕ → List ℕ → List ℕ → (List ℕ → Lis
 halved [] evens odds next = next evens odds
 halved (x ∷ xs) evens odds next = elim (x % 2) [ zero ↦ halved xs (x / 2 ∷ evens) odds next | suc n ↦ halved xs evens (x / 2 ∷ odds) next ]
 
--- One list is empty, or a test holds of both lists' evens and of their odds.
+-- A test holds of both lists' evens, and then of their odds.
+abbrev bothHold : (List ℕ → List ℕ → Bool) → List ℕ → List ℕ → List ℕ → List ℕ → Bool
+bothHold test evens odds others rest = elim (test evens others) [ true ↦ test odds rest | false ↦ false ]
+
+-- One list is empty, or the test holds of both halves.
 unfoldable pub parted : (List ℕ → List ℕ → Bool) → List ℕ → List ℕ → Bool
 parted test [] ys = true
 parted test (x ∷ xs) [] = true
-parted test (x ∷ xs) (y ∷ ys) =
-    halved (x ∷ xs) [] [] (λ evens odds.
-    halved (y ∷ ys) [] [] (λ others rest. elim (test evens others) [ true ↦ test odds rest | false ↦ false ]))
+parted test (x ∷ xs) (y ∷ ys) = halved (x ∷ xs) [] [] (λ evens odds. halved (y ∷ ys) [] [] (bothHold test evens odds))
 
 -- They have nothing in common, as so many bits show.
 unfoldable pub nothingCommon : ℕ → List ℕ → List ℕ → Bool
@@ -93,16 +95,15 @@ module _ (test : List ℕ → List ℕ → Bool) (right : (x : ℕ) (xs ys : Lis
   abbrev chosen : Bool → Bool
   chosen evens = elim evens [ true ↦ test (halves 1 us []) (halves 1 vs []) | false ↦ false ]
 
-  handed-on : (halved us [] [] (λ evens odds. halved vs [] [] (λ others rest. elim (test evens others) [ true ↦ test odds rest | false ↦ false ]))
-      ≡ true) → (test (halves 0 us []) (halves 0 vs []) ≡ true) × (test (halves 1 us []) (halves 1 vs []) ≡ true)
+  handed-on : halved us [] [] (λ evens odds. halved vs [] [] (bothHold test evens odds)) ≡ true
+      → (test (halves 0 us []) (halves 0 vs []) ≡ true) × (test (halves 1 us []) (halves 1 vs []) ≡ true)
   handed-on e =
       let evens = halves 0 us [] in
       let odds = halves 1 us [] in
       let tested : chosen (test evens (halves 0 vs [])) ≡ true =
       sym
-      (halved-halves us [] []
-      (λ evens odds. halved vs [] [] (λ others rest. elim (test evens others) [ true ↦ test odds rest | false ↦ false ]))
-      ∙ halved-halves vs [] [] (λ others rest. elim (test evens others) [ true ↦ test odds rest | false ↦ false ]))
+      (halved-halves us [] [] (λ evens odds. halved vs [] [] (bothHold test evens odds))
+      ∙ halved-halves vs [] [] (bothHold test evens odds))
       ∙ e in
       by-test (test evens (halves 0 vs []))
       (λ holds. (holds, sym (ap chosen holds) ∙ tested))
