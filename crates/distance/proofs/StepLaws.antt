@@ -145,7 +145,7 @@ register-append register [] more = refl
 register-append register (bit ∷ bits) more = register-append (clocked register bit) bits more
 
 -- Each zero doubles it.
-register-zeros : (n j : ℕ) → registerAfter (n % 2 ^ 32) (replicate j 0) ≡ n * 2 ^ j % 2 ^ 32
+pub register-zeros : (n j : ℕ) → registerAfter (n % 2 ^ 32) (replicate j 0) ≡ n * 2 ^ j % 2 ^ 32
 unfolding registerAfter
 register-zeros n zero = omega arith
 register-zeros n (suc j) =

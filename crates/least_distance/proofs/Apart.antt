@@ -20,7 +20,7 @@ use Rattle.trellis.proofs.States.{onward, weight-coded, end-zero, end-below}
 use Rattle.trellis.proofs.Running.{zero-free, countedWeight, weight-counted}
 use Rattle.trellis.proofs.Onward.{onward-running, aheadResponse, onwardResponse}
 use Rattle.least_distance.specs.Least.{LeastDistance}
-use Rattle.least_distance.proofs.Meeting.{heavy}
+use Rattle.least_distance.proofs.Meeting.{never-light}
 
 -- ---- One word and the zero word
 
@@ -57,7 +57,7 @@ module _ (word : ℕ) where
     where
       by-first : weightOf onward 0 (clockedBits word) ≤ 27 → Stays onward (clockedBits word) ⊎ FirstOne onward (clockedBits word) → ⊥
       by-first near (inl (zeros, ends)) = other (zeros-clocked h (zeros ∙ ap (λ (n : ℕ). replicate n 0) (length-clockedBits word)))
-      by-first near (inr one) = heavy (clockedBits word) one (omega (arith, length-clockedBits word)) returns near
+      by-first near (inr one) = never-light (clockedBits word) one (omega (arith, length-clockedBits word)) returns near
 
 -- ---- Two words
 

@@ -15,7 +15,7 @@ use Rattle.trellis.proofs.States.{onward, backward, turned}
 use Rattle.trellis.proofs.Running.{one-weighs}
 use Rattle.trellis.proofs.Onward.{aheadResponse, onwardCounts, onwardResponse, onward-running}
 use Rattle.trellis.proofs.Backward.{behindResponse, backwardCounts, backwardResponse, backward-running}
-use Rattle.trellis.proofs.Reached.{further, reached, reached-keeps, one-reached, zero-reached}
+use Rattle.trellis.proofs.Reached.{ifLeft, reached, reached-keeps, one-reached, zero-reached}
 use Rattle.trellis.proofs.Common.{In, halved, parted, nothingCommon, nothing-common}
 
 -- ---- Computed
@@ -36,7 +36,7 @@ abbrev arriving : List ℕ
 arriving = reached (backward .to) oldest backwardResponse 81 11 (backward .to 0 1) backwardResponse (0 ∷ [])
 
 none-met : nothingCommon 30 departed arriving ≡ true
-unfolding aheadResponse behindResponse firstMask secondMask further reached halved parted nothingCommon
+unfolding aheadResponse behindResponse firstMask secondMask ifLeft reached halved parted nothingCommon
 none-met = refl
 
 never-met : (x : ℕ) → In x departed → In x arriving → ⊥
@@ -94,7 +94,7 @@ module _ (bits : List ℕ) (are-bits : AllBits bits) (short : length bits ≤ 81
       either (inr cut) = not-cut cut
 
 -- After zeros, too.
-pub heavy : (bits : List ℕ) → FirstOne onward bits → length bits ≤ 81 → endOf onward 0 bits ≡ 0 → weightOf onward 0 bits ≤ 27 → ⊥
-heavy bits one short returns light =
+pub never-light : (bits : List ℕ) → FirstOne onward bits → length bits ≤ 81 → endOf onward 0 bits ≡ 0 → weightOf onward 0 bits ≤ 27 → ⊥
+never-light bits one short returns light =
     none-returns (one .after) (one .are-bits) (omega (arith, one .shorter)) (sym (one .ends-alike) ∙ returns)
     (omega (arith, one .weighs, one-weighs onward-running))

@@ -129,7 +129,7 @@ module _ (frame : List ℕ) (limit budget : ℕ) where
       let close = is-margin received limit (n .word) only (n .margin) (is .its-margin) in
       rw (nearest-only received (n .word) only, few, close, ← is .its-disagreements, ← is .live-count, ← is .wrong-sync)
 
-  pub word-of : (n : Nearest) → searched frame limit budget ≡ RepairAnswer.Word n → (live ≤ budget) × IsNearest frame limit n
+  word-of : (n : Nearest) → searched frame limit budget ≡ RepairAnswer.Word n → (live ≤ budget) × IsNearest frame limit n
   word-of n =
       by-case (λ a. a ≡ RepairAnswer.Word n → (live ≤ budget) × IsNearest frame limit n)
       (λ over e. absurd (refused-not-word _ n e))

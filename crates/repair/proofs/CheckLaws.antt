@@ -15,8 +15,9 @@ use Rattle.frame.specs.Answer.{isSymbol, firstLarge}
 use Rattle.frame.proofs.SymbolLaws.{symbols-of-test}
 use Rattle.repair.specs.Answer.{firstBadBound, searched, frameRepaired, repairNumbers}
 use Rattle.repair.specs.Demand.{Bounds, FirstLargeAt, AsChecked}
+use Rattle.repair.specs.declared.Nearest.{Nearest}
 use Rattle.repair.specs.declared.RepairAnswer.{RepairAnswer}
-use Rattle.repair.proofs.AnswerLaws.{number-same, repaired-searched, searched-refusal}
+use Rattle.repair.proofs.AnswerLaws.{refused-not-word, number-same, repaired-searched, searched-refusal}
 use Rattle.repair.proofs.BoundLaws.{bad-limit-first, bad-budget-next, no-bad-bound}
 
 -- ---- The first symbol above 3
@@ -76,7 +77,7 @@ module _ (frame : List ℕ) (limit budget : ℕ) where
       repaired-bound long (omega arith) ∙ ap (λ (p : ℕ). RepairAnswer.Refused (refusal badBound p)) e
 
   -- What holds of the answer in each case holds of it.
-  pub by-check : (P : RepairAnswer → Type 0)
+  by-check : (P : RepairAnswer → Type 0)
       → ((length frame ≡ 162 → ⊥) → P (RepairAnswer.Refused (refusal wrongLength 0)))
       → (length frame ≡ 162 → 12 < limit → P (RepairAnswer.Refused (refusal badBound 0)))
       → (length frame ≡ 162 → BadBudget → P (RepairAnswer.Refused (refusal badBound 1)))
@@ -176,6 +177,26 @@ module _ (frame : List ℕ) (limit budget : ℕ) where
       (λ long bad e. omega (arith, number-same _ _ e))
       (λ long bounds first e. omega (arith, number-same _ _ e))
       (λ right bounds e. omega (arith, searched-refusal frame limit budget f e))
+
+  -- 16 and above, and a word, are given only where symbols, limit and budget are as they should be.
+  pub refusal-searched : (f : Refusal) → 16 ≤ f .number → frameRepaired frame limit budget ≡ RepairAnswer.Refused f → RightSymbols frame × Bounds limit budget
+  unfolding repairNumbers
+  refusal-searched f h =
+      by-check (λ a. a ≡ RepairAnswer.Refused f → RightSymbols frame × Bounds limit budget)
+      (λ other e. absurd (omega (arith, number-same _ _ e)))
+      (λ long more e. absurd (omega (arith, number-same _ _ e)))
+      (λ long bad e. absurd (omega (arith, number-same _ _ e)))
+      (λ long bounds first e. absurd (omega (arith, number-same _ _ e)))
+      (λ right bounds e. (right, bounds))
+
+  pub word-searched : (n : Nearest) → frameRepaired frame limit budget ≡ RepairAnswer.Word n → RightSymbols frame × Bounds limit budget
+  word-searched n =
+      by-check (λ a. a ≡ RepairAnswer.Word n → RightSymbols frame × Bounds limit budget)
+      (λ other e. absurd (refused-not-word _ n e))
+      (λ long more e. absurd (refused-not-word _ n e))
+      (λ long bad e. absurd (refused-not-word _ n e))
+      (λ long bounds first e. absurd (refused-not-word _ n e))
+      (λ right bounds e. (right, bounds))
 
   pub checked : AsChecked frame limit budget (frameRepaired frame limit budget)
   checked =

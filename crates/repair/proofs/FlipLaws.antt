@@ -15,6 +15,7 @@ use Rattle.convolution.specs.Code.{codedBits}
 use Rattle.convolution.proofs.CodeLaws.{length-codedBits}
 use Rattle.interleaver.specs.Places.{placeOf, indexAt}
 use Rattle.interleaver.proofs.PlaceLaws.{placeOf-below, indexAt-below, indexAt-placeOf, placeOf-indexAt}
+use Rattle.refusal.specs.Refusals.{refusal, sharedFewest}
 use Rattle.frame.specs.Symbols.{frameOf, RightSymbols, dataAt, receivedBits}
 use Rattle.frame.proofs.SymbolLaws.{length-receivedBits, getD-receivedBits, received-frameOf}
 use Rattle.distance.specs.Prefixes.{differences, wordDisagreements, liveCount}
@@ -29,8 +30,8 @@ use Rattle.repair.specs.Answer.{nearestWith, frameRepaired, repairNumber
 use Rattle.repair.specs.Demand.{Bounds, IsNearest, NoneWithin, Shared}
 use Rattle.repair.specs.Flips.{flippedAt, flips, givenBack, FramesApart, FramesLeast, FlipsRepaired, TwoFlipsRepaired, FourFlipsRepaired, noWordGiven, FlipsLaw, ThreeFlipsRefused, NeverShared, MarginLeft, WrongWordFlips}
 use Rattle.repair.specs.declared.Nearest.{Nearest}
-use Rattle.repair.proofs.AnswerLaws.{refused-not-word, number-same, word-of, shared-of, demanded}
-use Rattle.repair.proofs.CheckLaws.{by-check}
+use Rattle.repair.proofs.AnswerLaws.{number-same, repaired-searched, shared-of, demanded}
+use Rattle.repair.proofs.CheckLaws.{refusal-searched, word-searched}
 
 module _ (word : ℕ) (frame : List ℕ) where
   abbrev received : List ℕ
@@ -211,13 +212,9 @@ module _ (frame : List ℕ) (limit budget : ℕ) where
 
   pub never-shared : NeverShared (frameRepaired frame limit budget)
   unfolding repairNumbers
-  never-shared =
-      by-check frame limit budget NeverShared
-      (λ other place e. omega (arith, number-same _ _ e))
-      (λ long more place e. omega (arith, number-same _ _ e))
-      (λ long bad place e. omega (arith, number-same _ _ e))
-      (λ long bounds first place e. omega (arith, number-same _ _ e))
-      (λ right bounds place e. none-shared bounds (shared-of frame limit budget (number-same _ _ e) .1))
+  never-shared place e =
+      let (right, bounds) = refusal-searched frame limit budget (refusal sharedFewest place) (omega arith) e in
+      none-shared bounds (shared-of frame limit budget (number-same _ _ (sym (repaired-searched frame limit budget right bounds) ∙ e)) .1)
 
   -- The next nearest word is never within the limit.
   margin-of : (nearest : Nearest) → Bounds limit budget → IsNearest frame limit nearest → nearest .disagreements + nearest .margin ≡ limit + 1
@@ -238,10 +235,6 @@ module _ (frame : List ℕ) (limit budget : ℕ) where
       beyond none = rw (is .its-disagreements) (none .next-after-limit)
 
   pub margin-limit : MarginLeft limit (frameRepaired frame limit budget)
-  margin-limit =
-      by-check frame limit budget (MarginLeft limit)
-      (λ other nearest e. absurd (refused-not-word _ nearest e))
-      (λ long more nearest e. absurd (refused-not-word _ nearest e))
-      (λ long bad nearest e. absurd (refused-not-word _ nearest e))
-      (λ long bounds first nearest e. absurd (refused-not-word _ nearest e))
-      (λ right bounds nearest e. omega (arith, margin-of nearest bounds (word-of frame limit budget nearest e .1)))
+  margin-limit nearest e =
+      let (right, bounds) = word-searched frame limit budget nearest e in
+      omega (arith, margin-of nearest bounds (demanded frame limit budget right bounds .answered nearest .0 e .1))

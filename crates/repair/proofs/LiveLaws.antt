@@ -10,6 +10,7 @@ use Rattle.basics.proofs.Choice.{by-test}
 use Rattle.convolution.specs.Code.{codedBits}
 use Rattle.convolution.proofs.CodeLaws.{length-codedBits}
 use Rattle.interleaver.specs.Places.{placeOf}
+use Rattle.refusal.specs.Refusals.{refusal, overBudget}
 use Rattle.frame.specs.Symbols.{RightSymbols, receivedBits}
 use Rattle.frame.proofs.SymbolLaws.{length-receivedBits}
 use Rattle.distance.specs.Prefixes.{differences, liveCount}
@@ -24,8 +25,8 @@ use Rattle.repair.specs.Flips.{flippedAt, flips}
 use Rattle.repair.specs.LiveCounts.{worstIndex, OneFlipCount, CountsByFlips, CountsOfAny, CleanRepaired, OneFlipRepaired, NeverOverBudget}
 use Rattle.repair.specs.declared.Nearest.{Nearest}
 use Rattle.repair.specs.declared.RepairAnswer.{RepairAnswer}
-use Rattle.repair.proofs.AnswerLaws.{number-same, over-of, demanded}
-use Rattle.repair.proofs.CheckLaws.{by-check}
+use Rattle.repair.proofs.AnswerLaws.{number-same, repaired-searched, over-of, demanded}
+use Rattle.repair.proofs.CheckLaws.{refusal-searched}
 use Rattle.repair.proofs.FlipLaws.{received-there, sent-there, flips-disagreements, flips-repaired}
 use Rattle.repair.proofs.FoundLaws.{received-bits}
 
@@ -132,10 +133,7 @@ one-flip-repaired frame limit budget two bounds right word h one =
 -- 16 would need a larger live count.
 pub never-over-budget : (frame : List ℕ) (limit budget : ℕ) → NeverOverBudget limit budget (frameRepaired frame limit budget)
 unfolding repairNumbers
-never-over-budget frame limit budget =
-    by-check frame limit budget (NeverOverBudget limit budget)
-    (λ other to-4 enough place e. omega (arith, number-same _ _ e))
-    (λ long more to-4 enough place e. omega (arith, number-same _ _ e))
-    (λ long bad to-4 enough place e. omega (arith, number-same _ _ e))
-    (λ long bounds first to-4 enough place e. omega (arith, number-same _ _ e))
-    (λ right bounds to-4 enough place e. omega (arith, over-of frame limit budget (number-same _ _ e), counts-of-any frame limit (omega arith)))
+never-over-budget frame limit budget to-4 enough place e =
+    let (right, bounds) = refusal-searched frame limit budget (refusal overBudget place) (omega arith) e in
+    let over = over-of frame limit budget (number-same _ _ (sym (repaired-searched frame limit budget right bounds) ∙ e)) in
+    omega (arith, over, counts-of-any frame limit (omega arith))

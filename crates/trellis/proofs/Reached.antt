@@ -12,9 +12,9 @@ use Rattle.trellis.proofs.Running.{zeroWeight, Running, zero-free, one-
 use Rattle.trellis.proofs.Common.{In}
 
 -- Nothing more where nothing is left of a limit; else what a search finds with one less.
-unfoldable pub further : ℕ → (ℕ → List ℕ → List ℕ) → List ℕ → List ℕ
-further zero search found = found
-further (suc left) search found = search left found
+unfoldable pub ifLeft : ℕ → (ℕ → List ℕ → List ℕ) → List ℕ → List ℕ
+ifLeft zero search found = found
+ifLeft (suc left) search found = search left found
 
 -- The state's own number, then those of the states that a 1 leads to, then a 0, so many steps on at most.
 unfoldable pub reached : (ℕ → ℕ → ℕ) → (ℕ → ℕ) → ℕ → ℕ → ℕ → ℕ → ℕ → List ℕ → List ℕ
@@ -22,22 +22,22 @@ reached to number response zero limit state counts found = number state ∷ foun
 reached to number response (suc k) limit state counts found =
     let weight = zeroWeight counts in
     let later = counts / 4_096 in
-    further (suc limit - weight) (λ left. reached to number response k left (to state 0) later)
-    (further (limit + weight - 1) (λ left. reached to number response k left (to state 1) (later + response)) (number state ∷ found))
+    ifLeft (suc limit - weight) (λ left. reached to number response k left (to state 0) later)
+    (ifLeft (limit + weight - 1) (λ left. reached to number response k left (to state 1) (later + response)) (number state ∷ found))
 
 -- ---- What was found stays
 
-further-keeps : (x left : ℕ) (search : ℕ → List ℕ → List ℕ) → ((l : ℕ) (found : List ℕ) → In x found → In x (search l found))
-    → (found : List ℕ) → In x found → In x (further left search found)
-unfolding further
-further-keeps x zero search keeps found there = there
-further-keeps x (suc left) search keeps found there = keeps left found there
+ifLeft-keeps : (x left : ℕ) (search : ℕ → List ℕ → List ℕ) → ((l : ℕ) (found : List ℕ) → In x found → In x (search l found))
+    → (found : List ℕ) → In x found → In x (ifLeft left search found)
+unfolding ifLeft
+ifLeft-keeps x zero search keeps found there = there
+ifLeft-keeps x (suc left) search keeps found there = keeps left found there
 
 -- Where something is left, the search finds what it finds.
-further-finds : (x left all : ℕ) (search : ℕ → List ℕ → List ℕ) (found : List ℕ) → all ≡ suc left → In x (search left found)
-    → In x (further all search found)
-unfolding further
-further-finds x left all search found e there = rw e there
+ifLeft-finds : (x left all : ℕ) (search : ℕ → List ℕ → List ℕ) (found : List ℕ) → all ≡ suc left → In x (search left found)
+    → In x (ifLeft all search found)
+unfolding ifLeft
+ifLeft-finds x left all search found e there = rw e there
 
 module _ (steps : Steps) (counts : ℕ → ℕ) (response : ℕ) (running : Running steps counts response) (number : ℕ → ℕ) where
   abbrev search : ℕ → ℕ → ℕ → ℕ → List ℕ → List ℕ
@@ -54,9 +54,9 @@ module _ (steps : Steps) (counts : ℕ → ℕ) (response : ℕ) (running : Runn
   unfolding In reached
   reached-keeps x zero limit state known found there = there
   reached-keeps x (suc k) limit state known found there =
-      further-keeps x (suc limit - zeroWeight known) (onZero k state known)
+      ifLeft-keeps x (suc limit - zeroWeight known) (onZero k state known)
       (λ left others kept. reached-keeps x k left (steps .to state 0) (known / 4_096) others (inr kept)) _
-      (further-keeps x (limit + zeroWeight known - 1) (onOne k state known)
+      (ifLeft-keeps x (limit + zeroWeight known - 1) (onOne k state known)
       (λ left others kept. reached-keeps x k left (steps .to state 1) (known / 4_096 + response) others (inr kept)) (number state ∷ found) there)
 
   -- ---- A path within the limit, and of no more steps, leads to a state that is found
@@ -72,10 +72,10 @@ module _ (steps : Steps) (counts : ℕ → ℕ) (response : ℕ) (running : Runn
       let weight : steps .weight state 0 ≡ zeroWeight known = running .zero-weight state small in
       let left = limit - steps .weight state 0 in
       let x = number (endOf steps next bits) in
-      let ones = further (limit + zeroWeight known - 1) (onOne k state known) (number state ∷ found) in
+      let ones = ifLeft (limit + zeroWeight known - 1) (onOne k state known) (number state ∷ found) in
       let there : In x (search k left next (counts next) ones) =
       all-reached k left next bits ones (running .below state 0 small (omega arith)) (are-bits .1) (omega arith) (omega arith) in
-      further-finds x left (suc limit - zeroWeight known) (onZero k state known) ones (omega arith)
+      ifLeft-finds x left (suc limit - zeroWeight known) (onZero k state known) ones (omega arith)
       (rw (running .zero-next state small) at there)
   all-reached (suc k) limit state (suc zero ∷ bits) found small are-bits short light =
       let known = counts state in
@@ -86,9 +86,9 @@ module _ (steps : Steps) (counts : ℕ → ℕ) (response : ℕ) (running : Runn
       let here = number state ∷ found in
       let there : In x (search k left next (counts next) here) =
       all-reached k left next bits here (running .below state 1 small (omega arith)) (are-bits .1) (omega arith) (omega arith) in
-      further-keeps x (suc limit - zeroWeight known) (onZero k state known)
+      ifLeft-keeps x (suc limit - zeroWeight known) (onZero k state known)
       (λ left others kept. reached-keeps x k left (steps .to state 0) (known / 4_096) others (inr kept)) _
-      (further-finds x left (limit + zeroWeight known - 1) (onOne k state known) here (omega arith)
+      (ifLeft-finds x left (limit + zeroWeight known - 1) (onOne k state known) here (omega arith)
       (rw (running .one-next state small) at there))
   all-reached (suc k) limit state (suc (suc bit) ∷ bits) found small are-bits short light = absurd (omega (arith, are-bits .0))
 

@@ -2,7 +2,6 @@
 -- dropped; backwards the oldest is taken up again. The weight of a path is how many of its coded bits are 1.
 use mathlib.Core.Path.{_≡_, refl, sym, ap, _∙_}
 use Prim.Native.Nat.{ℕ, zero, suc, _+_, _*_, _/_, _%_, _^_, _≤_, _<_}
-use native.Mathlib.Nat.{mul-assoc, mul-comm, pow-suc}
 use native.Mathlib.Omega.{arith}
 use mathlib.Core.List.{List, [], _∷_, _++_}
 use lib.ListN.{length, replicate, length-append}
@@ -10,7 +9,9 @@ use Rattle.basics.proofs.Choice.{equal-or-not}
 use Rattle.convolution.specs.Code.{clocked, firstMask, secondMask, parity, codedFrom}
 use Rattle.convolution.proofs.CodeLaws.{parity-below}
 use Rattle.distance.specs.Prefixes.{unlike, differences}
-use Rattle.distance.proofs.Bits.{AllBits, bits-append, alike, not-alike}
+use Rattle.distance.proofs.Bits.{AllBits, bits-append, bits-zeros, alike, not-alike}
+use Rattle.distance.proofs.PrefixLaws.{registerAfter}
+use Rattle.distance.proofs.StepLaws.{register-zeros}
 use Rattle.trellis.proofs.Steps.{Steps, endOf, weightOf, end-append, weight-append}
 
 -- How many of the two coded bits of a register are 1.
@@ -59,23 +60,20 @@ weight-coded (suc (suc n)) register (bit ∷ bits) are-bits h =
       here,
     )
 
--- Each zero doubles the state.
-doubled : (n : ℕ) → (n % 2 ^ 31 * 2 + 0) % 2 ^ 31 ≡ n * 2 % 2 ^ 31
-doubled n = omega arith
+-- The state is what the register holds without its oldest bit.
+end-register : (register : ℕ) (bits : List ℕ) → AllBits bits → endOf onward (register % 2 ^ 31) bits ≡ registerAfter register bits % 2 ^ 31
+unfolding AllBits endOf registerAfter
+end-register register [] are-bits = refl
+end-register register (bit ∷ bits) are-bits =
+    ap (λ (s : ℕ). endOf onward s bits) (sym (next-state register bit (are-bits .0))) ∙ end-register (clocked register bit) bits (are-bits .1)
 
-end-zeros : (n j : ℕ) → endOf onward (n % 2 ^ 31) (replicate j 0) ≡ n * 2 ^ j % 2 ^ 31
-unfolding endOf
-end-zeros n zero = omega arith
-end-zeros n (suc j) =
-    ap (λ (s : ℕ). endOf onward s (replicate j 0)) (doubled n)
-    ∙ end-zeros (n * 2) j
-    ∙ rw (pow-suc 2 j, mul-comm (2 ^ j) 2, ← mul-assoc n 2 (2 ^ j))
-
--- 31 of them lead to the zero state.
+-- 31 zeros lead to the zero state.
 pub end-zero : (state : ℕ) → state < 2 ^ 31 → endOf onward state (replicate 31 0) ≡ 0
 end-zero state h =
     let same : state % 2 ^ 31 ≡ state = omega arith in
-    (rw same at (end-zeros state 31)) ∙ omega arith
+    let small : state % 2 ^ 32 ≡ state = omega arith in
+    let shifted : registerAfter state (replicate 31 0) ≡ state * 2 ^ 31 % 2 ^ 32 = rw small at (register-zeros state 31) in
+    (rw same at (end-register state (replicate 31 0) (bits-zeros 31))) ∙ rw shifted (omega arith)
 
 pub end-below : (state : ℕ) (bits : List ℕ) → state < 2 ^ 31 → endOf onward state bits < 2 ^ 31
 unfolding endOf
