@@ -179,7 +179,8 @@ module _ (frame : List ℕ) (limit budget : ℕ) where
       (λ right bounds e. omega (arith, searched-refusal frame limit budget f e))
 
   -- 16 and above, and a word, are given only where symbols, limit and budget are as they should be.
-  pub refusal-searched : (f : Refusal) → 16 ≤ f .number → frameRepaired frame limit budget ≡ RepairAnswer.Refused f → RightSymbols frame × Bounds limit budget
+  pub refusal-searched : (f : Refusal) → 16 ≤ f .number → frameRepaired frame limit budget ≡ RepairAnswer.Refused f
+      → RightSymbols frame × Bounds limit budget
   unfolding repairNumbers
   refusal-searched f h =
       by-check (λ a. a ≡ RepairAnswer.Refused f → RightSymbols frame × Bounds limit budget)
