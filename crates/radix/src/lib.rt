@@ -3,6 +3,8 @@
 // The digits of a callsign, a locator and of telemetry's two numbers and the bits of a word are such
 // numerals, so that packing and unpacking are proved to be inverse once, here (proofs/Laws.antt), and
 // every layer cites it.
+#![tactic(auto)]
+
 ghost use Rattle.std.specs.Prelude.{◌≡◌, ◌≤◌, ◌/◌, ◌^◌, length};
 ghost use Rattle.radix.specs.Numeral.{Digits, Positive, count, number_of, digits_of};
 
