@@ -1,4 +1,6 @@
 // The convolutional code of a word: its 162 coded bits, and the word that coded bits determine.
+#![tactic(auto)]
+
 ghost use Rattle.std.specs.Prelude.{◌≡◌, ◌<◌, get_or};
 ghost use Rattle.convolution.specs.Code.{first_mask, second_mask, clocked, parity, clocked_bits, coded_bits};
 ghost use Rattle.convolution.specs.Decoding.{next_bit, decoded_word, OnlyWord};

@@ -1,4 +1,6 @@
 // The 19 legal powers, in dBm, and their indexes.
+#![tactic(auto)]
+
 ghost use Rattle.std.specs.Prelude.{◌≡◌};
 ghost use Rattle.power.specs.Powers.{power_index, power_at, legal_power};
 

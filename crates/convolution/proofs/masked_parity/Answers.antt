@@ -8,30 +8,18 @@ use lib.Bits.{bit_and, and_le_l, and_le_r}
 use lib.Pow.{shl_lt}
 use mir.Syntax.{w8, w64}
 use mir.Val.{Fits}
-use mir.Facts.{Fits-and_r}
-use borrow.Author.Rules.{rules}
 use Rattle.convolution.specs.Code.{parity}
 use Rattle.convolution.proofs.Folding.{fold, parity_product}
-use Rattle.convolution.proofs.masked_parity.Statement.{statement}
-use Rattle.convolution.proofs.masked_parity.Tie as tie
+use Rattle.convolution.proofs.masked_parity.Goals as goal
 
 -- A product of two numbers of 32 bits fits 64, whichever bits are summed and whatever the factor.
 product-fits : (n bits factor : ℕ) → bits < 2 ^ 32 → factor < 2 ^ 32 → Fits w64 (bit_and n bits * factor)
 product-fits n bits factor h k =
     record { fits = lt_of_le_of_lt (mul-le-mul (and_le_r n bits) (le_of_lt k)) (shl_lt 32 32 h) }
 
-cast-sums : tie.Need-overflow-cast-sums
-cast-sums c = search (rules, Fits-and_r)
-
-mul-sums : tie.Need-overflow-mul-sums
-mul-sums c = search (rules, product-fits)
-
 -- The highest of 32 bits is 0 or 1.
 highest-fits : (n : ℕ) → Fits w8 (bit_and n 0xFFFF_FFFF / 2 ^ 31)
 highest-fits n = record { fits = omega (arith, and_le_r n 0xFFFF_FFFF) }
-
-cast-result : tie.Need-overflow-cast-result
-cast-result c = search (rules, highest-fits)
 
 -- The law, with the facts about the code apart: its folds are by two and by one, and these are the bits that it sums and the factor.
 parity-found : (mask register folded bits factor : ℕ) → register < 2 ^ 32
@@ -43,8 +31,5 @@ unfolding parity
 parity-found mask register folded bits factor h e f g =
     rw (e, f, g) (parity_product (bit_and register mask) (lt_of_le_of_lt (and_le_l register mask) h))
 
-returns : tie.Need-returns
+pub returns : goal.returns
 returns c = search (parity-found, refl)
-
-pub masked-parity-spec : {M : Type 1} → statement M
-masked-parity-spec = tie.close (tie.spec cast-sums mul-sums cast-result returns)

@@ -6,12 +6,9 @@ use Rattle.basics.specs.Lists.{same_list}
 use Rattle.basics.proofs.ListLaws.{same_list_equal}
 use Rattle.interleaver.specs.Places.{reversed_in, reversed, places_from, all_places}
 use Rattle.interleaver.proofs.PlaceLaws.{places_indexes}
-use Rattle.interleaver.proofs.places.table.Statement.{statement}
-use Rattle.interleaver.proofs.places.table.Tie as tie
+use Rattle.interleaver.proofs.places.table.Goals as goal
 
-returns : tie.Need-returns
+pub returns : goal.returns
 unfolding same_list all_places places_from reversed reversed_in
-returns c = (same_list_equal _ all_places refl, places_indexes)
-
-pub table-spec : {M : Type 1} → statement M
-table-spec = tie.close (tie.spec returns)
+returns c =
+    record { answer = same_list_equal _ all_places refl; inverse = places_indexes }

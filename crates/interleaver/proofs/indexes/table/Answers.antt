@@ -6,12 +6,9 @@ use Rattle.basics.specs.Lists.{tabulate, first_failing, index_in, same_list}
 use Rattle.basics.proofs.ListLaws.{same_list_equal}
 use Rattle.interleaver.specs.Places.{reversed_in, reversed, places_from, all_places, index_at, all_indexes}
 use Rattle.interleaver.proofs.PlaceLaws.{places_indexes}
-use Rattle.interleaver.proofs.indexes.table.Statement.{statement}
-use Rattle.interleaver.proofs.indexes.table.Tie as tie
+use Rattle.interleaver.proofs.indexes.table.Goals as goal
 
-returns : tie.Need-returns
+pub returns : goal.returns
 unfolding same_list all_indexes tabulate index_at index_in first_failing all_places places_from reversed reversed_in
-returns c = (same_list_equal _ all_indexes refl, places_indexes)
-
-pub table-spec : {M : Type 1} → statement M
-table-spec = tie.close (tie.spec returns)
+returns c =
+    record { answer = same_list_equal _ all_indexes refl; inverse = places_indexes }
