@@ -1,4 +1,5 @@
 // A refusal by its number and place, and the numbers of the table of refusals by name.
+#![tactic(auto)]
 
 #[derive(Drop)]
 pub struct Refusal {

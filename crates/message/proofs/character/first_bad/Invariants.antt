@@ -1,0 +1,19 @@
+-- `message::character::first_bad` meets its contract. The loop's invariant: the first bad place from i on is that of all the bytes.
+-- The measure is what is left of the length.
+-- Assumes nothing.
+
+use mathlib.Core.Path.{◌≡◌, sym, ap, ◌∙◌}
+use Prim.Native.Nat.{ℕ, ◌+◌, ◌-◌, ◌≤◌}
+use native.Mathlib.Nat.{add-zero}
+use native.Mathlib.Omega.{arith}
+use borrow.Author.Tests.{not-true, not-false}
+use lib.ListN.{length, drop}
+use Rattle.message.specs.Character.{first_bad, legal_at}
+use Rattle.basics.proofs.ListLaws.{search_failed, search_passed, search_over}
+use Rattle.message.proofs.character.first_bad.Given as goal
+
+abbrev pub invariant-loop-i : goal.invariant-loop-i
+invariant-loop-i l = (l.i ≤ length l.bytes) × (first_bad (l.start + l.i) (drop l.i l.bytes) ≡ first_bad l.start l.bytes)
+
+abbrev pub decreases-loop-i : goal.decreases-loop-i
+decreases-loop-i l = length l.bytes - l.i

@@ -1,0 +1,31 @@
+-- `message::word::write_callsign` meets its contract: `radix::unpack` gives digits that are below the sizes of their sets, and
+-- `write_characters` writes their characters.
+-- Assumes nothing.
+use mathlib.Core.Path.{◌≡◌, refl, sym, ap, ◌∙◌}
+use native.Mathlib.Omega.{arith}
+use Rattle.radix.specs.Numeral.{digits_of}
+use Rattle.message.specs.Character.{characters_from}
+use Rattle.message.specs.Word.{callsign_radices, callsign_part, callsign_with_number, callsign_of}
+use Rattle.message.proofs.WordLaws.{callsign_positive, callsign_digits_at}
+use borrow.Author.Rules.{rules}
+use Rattle.message.proofs.word.write_callsign.Goals as goal
+
+-- The digits that were unpacked are those of the callsign's number.
+its_digits : (c : goal.After-unpack) → c.unpack.new.1.1.0 ≡ digits_of callsign_radices (callsign_part c.args.word)
+unfolding callsign_radices
+its_digits c = c.unpack.ensures.written ∙ ap (digits_of callsign_radices) c.callsign_part.ensures
+
+pub unpack-requires : goal.unpack-requires
+unfolding callsign_radices
+unpack-requires c =
+    record { positive = callsign_positive; digits_len = refl }
+
+pub write_characters-requires : goal.write_characters-requires
+unfolding callsign_radices digits_of
+write_characters-requires c =
+    rw (its_digits c) (omega (arith, c.requires), (sym c.requires, callsign_digits_at _))
+
+pub returns : goal.returns
+unfolding callsign_with_number callsign_of
+returns c =
+    c.write_characters.ensures ∙ ap (characters_from 0) (its_digits c)
