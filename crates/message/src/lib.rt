@@ -1,4 +1,6 @@
 // A WSPR type 1 message (callsign, locator, power) and its 50-bit word, both ways.
+#![tactic(auto)]
+
 pub mod character;
 mod word;
 

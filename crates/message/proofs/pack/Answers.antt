@@ -13,39 +13,27 @@ use Rattle.message.proofs.WordLaws.{callsign_number_below, locator_number_below}
 use Rattle.message.proofs.AnswerLaws.{Legal, legal_of_checked, packed_refused, packed_word}
 use Rattle.message.proofs.CapitalLaws.{packed_capitals}
 use Rattle.message.proofs.RoundTripLaws.{unpack_pack}
-use borrow.Author.Rules.{rules}
 use Rattle.message.proofs.pack.Goals as goal
-
--- Past the test the message is legal.
-is-checked : (c : tie.After-enum-told) → let a = c.before.before.before.before.before.args in
-    message_checked a.callsign.now a.locator.now a.power ≡ CheckAnswer.Legal
-is-checked c = sym c.before.before.check.ensures.0 ∙ c.enum_told.given.1
-
-its-legal : (c : tie.After-enum-told) → let a = c.before.before.before.before.before.args in
-    Legal a.callsign.now a.locator.now a.power
-its-legal c =
-    let a = c.before.before.before.before.before.args in
-    legal_of_checked a.callsign.now a.locator.now a.power (is-checked c)
 
 pub returns-in-Refused : goal.returns-in-Refused
 returns-in-Refused c =
     let a = c.args in
-    let refused = packed_refused a.callsign.now a.locator.now a.power _ (sym c.check-checked.ensures.answer ∙ c.in-Refused.refusal) in
+    let refused = packed_refused a.callsign.now a.locator.now a.power _ (sym c.check-checked.ensures.answer ∙ c.in-Refused.is) in
     record { answer = sym refused; numbers = ap word_numbers (sym refused); as_capitals = sym (packed_capitals a.callsign.now a.locator.now a.power ∙ refused); unpacks_back = tt }
 
 pub callsign_number-n-requires : goal.callsign_number-n-requires
 callsign_number-n-requires c =
-    let l = its-legal c in
+    let l = (let its : let a = c.args in Legal a.callsign.now a.locator.now a.power = let a = c.args in legal_of_checked a.callsign.now a.locator.now a.power (let its : let a = c.args in message_checked a.callsign.now a.locator.now a.power ≡ CheckAnswer.Legal = sym c.check-checked.ensures.answer ∙ c.in_default.is in its) in its) in
     record { callsign_len = l.six; callsign_value = omega (arith, l.six, none_fails legal_at 0 _ l.callsign_legal) }
 
 pub locator_number-m1-requires : goal.locator_number-m1-requires
 locator_number-m1-requires c =
-    let l = its-legal c in
+    let l = (let its : let a = c.args in Legal a.callsign.now a.locator.now a.power = let a = c.args in legal_of_checked a.callsign.now a.locator.now a.power (let its : let a = c.args in message_checked a.callsign.now a.locator.now a.power ≡ CheckAnswer.Legal = sym c.check-checked.ensures.answer ∙ c.in_default.is in its) in its) in
     record { locator_len = l.four; locator_value = omega (arith, l.four, none_fails legal_at 6 _ l.locator_legal) }
 
 pub assemble-requires : goal.assemble-requires
 assemble-requires c =
-    let l = its-legal c in
+    let l = (let its : let a = c.args in Legal a.callsign.now a.locator.now a.power = let a = c.args in legal_of_checked a.callsign.now a.locator.now a.power (let its : let a = c.args in message_checked a.callsign.now a.locator.now a.power ≡ CheckAnswer.Legal = sym c.check-checked.ensures.answer ∙ c.in_default.is in its) in its) in
     omega (arith, callsign_number_below _ l.six l.callsign_legal, locator_number_below _ l.four l.locator_legal, legal_power_end _ l.power_legal)
 
 pub returns : goal.returns
@@ -55,5 +43,5 @@ returns c =
     let callsign = c.callsign_number-n.ensures in
     let locator = c.locator_number-m1.ensures in
     let word : c.assemble.result ≡ word_of a.callsign.now a.locator.now a.power = cc c.assemble.ensures in
-    let made = packed_word a.callsign.now a.locator.now a.power (is-checked c) ∙ ap WordAnswer.Word (sym word) in
+    let made = packed_word a.callsign.now a.locator.now a.power (let its : let a = c.args in message_checked a.callsign.now a.locator.now a.power ≡ CheckAnswer.Legal = sym c.check-checked.ensures.answer ∙ c.in_default.is in its) ∙ ap WordAnswer.Word (sym word) in
     record { answer = sym made; numbers = ap word_numbers (sym made); as_capitals = sym (packed_capitals a.callsign.now a.locator.now a.power ∙ made); unpacks_back = unpack_pack _ _ _ _ made }

@@ -2,13 +2,12 @@
 -- Assumes nothing.
 use mathlib.Core.Path.{◌≡◌, sym}
 use native.Mathlib.Omega.{arith}
-use borrow.Author.Rules.{rules}
 use Rattle.message.specs.Character.{capital}
 use Rattle.message.proofs.CharacterLaws.{capital_small, capital_before, capital_after}
 use Rattle.message.proofs.character.capital_of.Goals as goal
 
 pub returns-in-97-to-122 : goal.returns-in-97-to-122
-returns-in-97-to-122 c = omega (arith, capital_small c.if-byte-lt97.false (omega arith))
+returns-in-97-to-122 c = omega (arith, capital_small c.in-97-to-122.if-byte-lt97-own.false (omega arith))
 
 pub returns-in_default : goal.returns-in_default
 returns-in_default c =

@@ -3,7 +3,6 @@
 use mathlib.Core.Path.{sym}
 use native.Mathlib.Omega.{arith}
 use Rattle.message.proofs.CharacterLaws.{character_digit, character_letter, character_space}
-use borrow.Author.Rules.{rules}
 use Rattle.message.proofs.character.character_of.Goals as goal
 
 pub returns-then-value-lt10 : goal.returns-then-value-lt10

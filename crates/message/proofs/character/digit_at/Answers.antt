@@ -2,7 +2,6 @@
 -- Assumes nothing.
 use native.Mathlib.Omega.{arith}
 use Rattle.message.specs.Character.{digit_at}
-use borrow.Author.Rules.{rules}
 use Rattle.message.proofs.character.digit_at.Goals as goal
 
 pub returns-then-value-lowest : goal.returns-then-value-lowest

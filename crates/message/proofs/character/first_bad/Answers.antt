@@ -1,12 +1,10 @@
 -- `message::character::first_bad` meets its contract. The loop's invariant: the first bad place from i on is that of all the bytes.
 -- The measure is what is left of the length.
 -- Assumes nothing.
-use mathlib.Core.Path.{◌≡◌, sym, ap, ◌∙◌}
-use Prim.Native.Nat.{ℕ, ◌+◌, ◌-◌, ◌≤◌}
-use native.Mathlib.Nat.{add-zero}
+use mathlib.Core.Path.{sym, ap, ◌∙◌}
+use Prim.Native.Nat.{ℕ, ◌+◌}
 use native.Mathlib.Omega.{arith}
-use borrow.Author.Tests.{not-true, not-false}
-use lib.ListN.{length, drop}
+use lib.ListN.{drop}
 use Rattle.message.specs.Character.{first_bad, legal_at}
 use Rattle.basics.proofs.ListLaws.{search_failed, search_passed, search_over}
 use Rattle.message.proofs.character.first_bad.Goals as goal
@@ -14,12 +12,12 @@ use Rattle.message.proofs.character.first_bad.Goals as goal
 pub returns-then-not-is_legal_at : goal.returns-then-not-is_legal_at
 returns-then-not-is_legal_at c =
     let a = c.args in
-    sym (search_failed legal_at a.bytes.now c.loop-i.i (a.start + c.loop-i.i) 0 (omega arith) (sym c.is_legal_at.ensures ∙ not-true _ c.if-not-is_legal_at.true)) ∙ c.loop-i.invariant.1
+    sym (search_failed legal_at a.bytes.now c.loop-i.i (a.start + c.loop-i.i) 0 (omega arith) (sym c.is_legal_at.ensures ∙ c.if-not-is_legal_at.true)) ∙ c.loop-i.invariant.1
 
 pub loop-i-preserved : goal.loop-i-preserved
 loop-i-preserved c =
     let a = c.args in
-    (omega arith, ap (λ (p : ℕ). first_bad p (drop (c.loop-i.i + 1) a.bytes.now)) (omega arith) ∙ search_passed legal_at a.bytes.now c.loop-i.i (a.start + c.loop-i.i) 0 (omega arith) (sym c.is_legal_at.ensures ∙ not-false _ c.if-not-is_legal_at.false) ∙ c.loop-i.invariant.1)
+    (omega arith, ap (λ (p : ℕ). first_bad p (drop (c.loop-i.i + 1) a.bytes.now)) (omega arith) ∙ search_passed legal_at a.bytes.now c.loop-i.i (a.start + c.loop-i.i) 0 (omega arith) (sym c.is_legal_at.ensures ∙ c.if-not-is_legal_at.false) ∙ c.loop-i.invariant.1)
 
 pub returns : goal.returns
 returns c =

@@ -2,14 +2,10 @@
 -- The measure is what is left of the length.
 -- Assumes nothing.
 
-use mathlib.Core.Path.{◌≡◌, sym, ap, ◌∙◌}
-use Prim.Native.Nat.{ℕ, ◌+◌, ◌-◌, ◌≤◌}
-use native.Mathlib.Nat.{add-zero}
-use native.Mathlib.Omega.{arith}
-use borrow.Author.Tests.{not-true, not-false}
+use mathlib.Core.Path.{◌≡◌}
+use Prim.Native.Nat.{◌+◌, ◌-◌, ◌≤◌}
 use lib.ListN.{length, drop}
-use Rattle.message.specs.Character.{first_bad, legal_at}
-use Rattle.basics.proofs.ListLaws.{search_failed, search_passed, search_over}
+use Rattle.message.specs.Character.{first_bad}
 use Rattle.message.proofs.character.first_bad.Given as goal
 
 abbrev pub invariant-loop-i : goal.invariant-loop-i

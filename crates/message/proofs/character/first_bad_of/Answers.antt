@@ -2,7 +2,6 @@
 -- Assumes nothing.
 use mathlib.Core.Path.{sym, ◌∙◌}
 use native.Mathlib.Omega.{arith}
-use borrow.Author.Rules.{rules}
 use Rattle.basics.proofs.ListLaws.{first_failing_first, all_pass, first_failing_append}
 use Rattle.message.specs.Character.{legal_at}
 use Rattle.message.proofs.character.first_bad_of.Goals as goal

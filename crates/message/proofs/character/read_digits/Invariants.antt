@@ -1,13 +1,10 @@
 -- `message::character::read_digits` meets its contract: the loop fills the digits one by one.
 -- Assumes nothing.
 
-use mathlib.Core.Path.{sym, ◌∙◌}
 use Prim.Native.Nat.{◌-◌}
-use native.Mathlib.Omega.{arith}
 use lib.ListN.{length}
-use Rattle.basics.proofs.Filling.{Filling, fill_starts, fill_turn, fill_ends}
+use Rattle.basics.proofs.Filling.{Filling}
 use Rattle.message.specs.Character.{digits_from}
-use Rattle.message.proofs.CharacterLaws.{length_digits_from, get_d_digits_from}
 use Rattle.message.proofs.character.read_digits.Given as goal
 
 abbrev pub invariant-loop-i : goal.invariant-loop-i

@@ -8,12 +8,6 @@ use Rattle.message.specs.Character.{set_at}
 use Rattle.message.proofs.CharacterLaws.{size_by_place}
 use Rattle.message.proofs.character.size_at.Goals as goal
 
--- Past the first three tests the size is that of the later places.
-later : (c : goal.Else-place-eq2) → let place = c.args.place in
-    (set_at place).size ≡ cond (ltb place 6) 27 (cond (ltb place 8) 18 10)
-later c =
-    size_by_place _ c.requires ∙ rw (ne_eqb _ 0 c.if-place-eq0.false, ne_eqb _ 1 c.if-place-eq1.false, ne_eqb _ 2 c.if-place-eq2.false)
-
 pub returns-then-place-eq0 : goal.returns-then-place-eq0
 returns-then-place-eq0 c = sym (size_by_place _ c.requires ∙ rw (eq-eqb _ 0 c.if-place-eq0.true))
 
@@ -26,10 +20,10 @@ returns-then-place-eq2 c =
     sym (size_by_place _ c.requires ∙ rw (ne_eqb _ 0 c.if-place-eq0.false, ne_eqb _ 1 c.if-place-eq1.false, eq-eqb _ 2 c.if-place-eq2.true))
 
 pub returns-then-place-lt6 : goal.returns-then-place-lt6
-returns-then-place-lt6 c = sym (later c ∙ rw (lt-ltb _ 6 c.if-place-lt6.true))
+returns-then-place-lt6 c = sym ((let its : let place = c.args.place in (set_at place).size ≡ cond (ltb place 6) 27 (cond (ltb place 8) 18 10) = size_by_place _ c.requires ∙ rw (ne_eqb _ 0 c.if-place-eq0.false, ne_eqb _ 1 c.if-place-eq1.false, ne_eqb _ 2 c.if-place-eq2.false) in its) ∙ rw (lt-ltb _ 6 c.if-place-lt6.true))
 
 pub returns-then-place-lt8 : goal.returns-then-place-lt8
-returns-then-place-lt8 c = sym (later c ∙ rw (le-ltb _ 6 c.if-place-lt6.false, lt-ltb _ 8 c.if-place-lt8.true))
+returns-then-place-lt8 c = sym ((let its : let place = c.args.place in (set_at place).size ≡ cond (ltb place 6) 27 (cond (ltb place 8) 18 10) = size_by_place _ c.requires ∙ rw (ne_eqb _ 0 c.if-place-eq0.false, ne_eqb _ 1 c.if-place-eq1.false, ne_eqb _ 2 c.if-place-eq2.false) in its) ∙ rw (le-ltb _ 6 c.if-place-lt6.false, lt-ltb _ 8 c.if-place-lt8.true))
 
 pub returns : goal.returns
-returns c = sym (later c ∙ rw (le-ltb _ 6 c.if-place-lt6.false, le-ltb _ 8 c.if-place-lt8.false))
+returns c = sym ((let its : let place = c.args.place in (set_at place).size ≡ cond (ltb place 6) 27 (cond (ltb place 8) 18 10) = size_by_place _ c.requires ∙ rw (ne_eqb _ 0 c.if-place-eq0.false, ne_eqb _ 1 c.if-place-eq1.false, ne_eqb _ 2 c.if-place-eq2.false) in its) ∙ rw (le-ltb _ 6 c.if-place-lt6.false, le-ltb _ 8 c.if-place-lt8.false))

@@ -5,7 +5,6 @@ use native.Mathlib.Omega.{arith}
 use Rattle.basics.proofs.Choice.{between_below, between_above}
 use Rattle.message.specs.Character.{capital}
 use Rattle.message.proofs.CharacterLaws.{capital_before, capital_small, capital_after, value_digit, value_letter, value_space, value_below_digits, value_other}
-use borrow.Author.Rules.{rules}
 use Rattle.message.proofs.character.value_of.Goals as goal
 
 pub returns-in-32 : goal.returns-in-32
@@ -29,14 +28,14 @@ returns-in-65-to-90 c =
 pub returns-in-97-to-122 : goal.returns-in-97-to-122
 returns-in-97-to-122 c =
     let byte = c.args.byte in
-    let its = capital_small c.if-byte-lt97.false (omega arith) in
+    let its = capital_small c.in-97-to-122.if-byte-lt97-own.false (omega arith) in
     omega (arith, value_letter byte (omega arith) (omega arith))
 
 pub returns-in_default : goal.returns-in_default
 returns-in_default c =
     let byte = c.args.byte in
     let own : capital byte ≡ byte = capital_before (omega arith) in
-    sym (value_below_digits byte (omega arith) (λ e. c.in_default-1.rest.1 (sym own ∙ e)))
+    sym (value_below_digits byte (omega arith) (λ e. c.in_default.in_default-own.rest.1 (sym own ∙ e)))
 
 pub returns-in_default-2 : goal.returns-in_default-2
 returns-in_default-2 c =

@@ -1,12 +1,10 @@
 -- `message::character::write_characters` meets its contract: the loop fills the characters one by one.
 -- Assumes nothing.
 use mathlib.Core.Path.{sym, ap, ◌∙◌}
-use Prim.Native.Nat.{◌+◌, ◌-◌}
+use Prim.Native.Nat.{◌+◌}
 use native.Mathlib.Omega.{arith}
-use borrow.Author.Rules.{rules}
-use lib.ListN.{length}
-use Rattle.basics.proofs.Filling.{Filling, fill_starts, fill_turn, fill_ends}
-use Rattle.message.specs.Character.{characters_from, character_at, character}
+use Rattle.basics.proofs.Filling.{fill_starts, fill_turn}
+use Rattle.message.specs.Character.{character_at, character}
 use Rattle.message.proofs.CharacterLaws.{length_characters_from, get_d_characters_from, digit_below, set_end}
 use Rattle.message.proofs.character.write_characters.Goals as goal
 
@@ -17,7 +15,7 @@ loop-i-init c =
 pub overflow_add-lowest_at : goal.overflow_add-lowest_at
 overflow_add-lowest_at c =
     let i = c.loop-i.i in
-    omega (arith, digit_below c.args.start c.args.digits.now i c.requires.digits_len.1 (omega arith), set_end (c.args.start + i))
+    omega (arith, digit_below c.args.start c.args.digits.now i c.requires.digits_at (omega arith), set_end (c.args.start + i))
 
 pub loop-i-preserved : goal.loop-i-preserved
 unfolding character_at

@@ -5,7 +5,6 @@ use Prim.Native.Nat.{ℕ, ◌+◌, ◌*◌, ◌%◌, ◌^◌, ◌<◌}
 use native.Mathlib.Omega.{arith}
 use lib.Bits.{bit_or, or_shifted}
 use Rattle.message.specs.Word.{word_from, lower_number}
-use borrow.Author.Rules.{rules}
 use Rattle.message.proofs.word.assemble.Goals as goal
 
 pub returns : goal.returns

@@ -6,7 +6,6 @@ use native.Mathlib.Omega.{arith}
 use Rattle.radix.specs.Numeral.{number_of}
 use Rattle.message.specs.Word.{callsign_radices, callsign_number}
 use Rattle.message.proofs.WordLaws.{callsign_count, callsign_digits}
-use borrow.Author.Rules.{rules}
 use Rattle.basics.proofs.ListLaws.{all_pass}
 use Rattle.message.specs.Character.{legal_at}
 use Rattle.message.proofs.word.callsign_number.Goals as goal

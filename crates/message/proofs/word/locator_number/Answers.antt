@@ -8,22 +8,24 @@ use Prim.Native.Nat.{ℕ}
 use Rattle.radix.specs.Numeral.{number_of}
 use Rattle.message.specs.Word.{locator_radices}
 use Rattle.message.proofs.WordLaws.{InSets, locator_digits, locator_count, locator_in_sets, locator_digits_in_range, locator_number_digits}
-use borrow.Author.Rules.{rules}
 use Rattle.basics.proofs.ListLaws.{all_pass}
 use Rattle.message.specs.Character.{legal_at}
 use Rattle.message.proofs.word.locator_number.Goals as goal
 
--- The values that were read are below the sizes of their sets.
-values-in-range : (c : tie.After-read-digits) → InSets c.read-digits.new.1.1.0
-values-in-range c =
-    let a = c.before.before.before in
-    let locator = a.args.locator.now in
-    rw c.read-digits.ensures (locator_in_sets locator a.requires.0 (all_pass legal_at 6 locator (omega arith)))
+pub overflow_sub-digits : goal.overflow_sub-digits
+overflow_sub-digits c =
+    let v = (let its : InSets c.read_digits.new.digits = let locator = c.args.locator.now in rw c.read_digits.ensures (locator_in_sets locator c.requires.locator_len (all_pass legal_at 6 locator (omega arith))) in its) in
+    omega arith
+
+pub overflow_sub-digits-2 : goal.overflow_sub-digits-2
+overflow_sub-digits-2 c =
+    let v = (let its : InSets c.read_digits.new.digits = let locator = c.args.locator.now in rw c.read_digits.ensures (locator_in_sets locator c.requires.locator_len (all_pass legal_at 6 locator (omega arith))) in its) in
+    omega arith
 
 pub pack-requires : goal.pack-requires
 unfolding locator_radices
 pack-requires c =
-    record { digits = locator_digits_in_range _ (values-in-range c); radices_bound = omega (arith, locator_count) }
+    record { digits = locator_digits_in_range _ (let its : InSets c.read_digits.new.digits = let locator = c.args.locator.now in rw c.read_digits.ensures (locator_in_sets locator c.requires.locator_len (all_pass legal_at 6 locator (omega arith))) in its); radices_bound = omega (arith, locator_count) }
 
 pub returns : goal.returns
 unfolding locator_radices

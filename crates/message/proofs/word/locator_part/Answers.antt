@@ -2,7 +2,6 @@
 -- Assumes nothing.
 use mathlib.Core.Path.{refl}
 use Rattle.message.specs.Word.{locator_part}
-use borrow.Author.Rules.{rules}
 use Rattle.message.proofs.word.locator_part.Goals as goal
 
 pub returns : goal.returns

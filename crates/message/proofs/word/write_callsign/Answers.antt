@@ -7,13 +7,7 @@ use Rattle.radix.specs.Numeral.{digits_of}
 use Rattle.message.specs.Character.{characters_from}
 use Rattle.message.specs.Word.{callsign_radices, callsign_part, callsign_with_number, callsign_of}
 use Rattle.message.proofs.WordLaws.{callsign_positive, callsign_digits_at}
-use borrow.Author.Rules.{rules}
 use Rattle.message.proofs.word.write_callsign.Goals as goal
-
--- The digits that were unpacked are those of the callsign's number.
-its_digits : (c : goal.After-unpack) → c.unpack.new.1.1.0 ≡ digits_of callsign_radices (callsign_part c.args.word)
-unfolding callsign_radices
-its_digits c = c.unpack.ensures.written ∙ ap (digits_of callsign_radices) c.callsign_part.ensures
 
 pub unpack-requires : goal.unpack-requires
 unfolding callsign_radices
@@ -23,9 +17,9 @@ unpack-requires c =
 pub write_characters-requires : goal.write_characters-requires
 unfolding callsign_radices digits_of
 write_characters-requires c =
-    rw (its_digits c) (omega (arith, c.requires), (sym c.requires, callsign_digits_at _))
+    rw (let its : c.unpack.new.digits ≡ digits_of callsign_radices (callsign_part c.args.word) = c.unpack.ensures.written ∙ ap (digits_of callsign_radices) c.callsign_part.ensures in its) (record { bytes_bound = omega (arith, c.requires); digits_len = sym c.requires; digits_at = callsign_digits_at _ })
 
 pub returns : goal.returns
-unfolding callsign_with_number callsign_of
+unfolding callsign_with_number callsign_of callsign_radices
 returns c =
-    c.write_characters.ensures ∙ ap (characters_from 0) (its_digits c)
+    c.write_characters.ensures ∙ ap (characters_from 0) (let its : c.unpack.new.digits ≡ digits_of callsign_radices (callsign_part c.args.word) = c.unpack.ensures.written ∙ ap (digits_of callsign_radices) c.callsign_part.ensures in its)

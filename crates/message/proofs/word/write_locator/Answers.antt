@@ -11,37 +11,31 @@ use Rattle.radix.proofs.Laws.{digits_in_range}
 use Rattle.message.specs.Character.{characters_from}
 use Rattle.message.specs.Word.{locator_radices, locator_values, locator_part, locator_with_number, locator_of}
 use Rattle.message.proofs.WordLaws.{locator_positive, locator_values_at}
-use borrow.Author.Rules.{rules}
 use Rattle.message.proofs.word.write_locator.Goals as goal
-
--- The digits that were unpacked are those of the locator's number.
-its_digits : (c : goal.After-unpack) → c.unpack.new.1.1.0 ≡ digits_of locator_radices (locator_part c.args.word)
-unfolding locator_radices
-its_digits c = c.unpack.ensures.written ∙ ap (digits_of locator_radices) c.locator_part.ensures
-
--- So they are below their radices.
-in_range : (c : goal.After-unpack) → (get_or c.unpack.new.1.1.0 0 0 < 18) × (get_or c.unpack.new.1.1.0 1 0 < 10)
-unfolding Digits digits_of locator_radices
-in_range c =
-    let d = digits_in_range locator_radices (locator_part c.args.word) locator_positive in
-    rw (its_digits c) (d.0, d.1.0)
 
 pub unpack-requires : goal.unpack-requires
 unfolding locator_radices
 unpack-requires c =
     record { positive = locator_positive; digits_len = refl }
 
+pub overflow_sub-values : goal.overflow_sub-values
+unfolding locator_radices Digits digits_of
+overflow_sub-values c =
+    let d = (let its : (get_or c.unpack.new.digits 0 0 < 18) × (get_or c.unpack.new.digits 1 0 < 10) = let d = digits_in_range locator_radices (locator_part c.args.word) locator_positive in rw (let its : c.unpack.new.digits ≡ digits_of locator_radices (locator_part c.args.word) = c.unpack.ensures.written ∙ ap (digits_of locator_radices) c.locator_part.ensures in its) (d.0, d.1.0) in its) in
+    omega arith
+
 pub overflow_sub-values-2 : goal.overflow_sub-values-2
+unfolding locator_radices Digits digits_of
 overflow_sub-values-2 c =
-    let d = in_range c in
+    let d = (let its : (get_or c.unpack.new.digits 0 0 < 18) × (get_or c.unpack.new.digits 1 0 < 10) = let d = digits_in_range locator_radices (locator_part c.args.word) locator_positive in rw (let its : c.unpack.new.digits ≡ digits_of locator_radices (locator_part c.args.word) = c.unpack.ensures.written ∙ ap (digits_of locator_radices) c.locator_part.ensures in its) (d.0, d.1.0) in its) in
     omega arith
 
 pub write_characters-requires : goal.write_characters-requires
 unfolding locator_radices locator_values
 write_characters-requires c =
-    rw (its_digits c) (omega (arith, c.requires), (sym c.requires, locator_values_at _))
+    rw (let its : c.unpack.new.digits ≡ digits_of locator_radices (locator_part c.args.word) = c.unpack.ensures.written ∙ ap (digits_of locator_radices) c.locator_part.ensures in its) (record { bytes_bound = omega (arith, c.requires); digits_len = sym c.requires; digits_at = locator_values_at _ })
 
 pub returns : goal.returns
-unfolding locator_values locator_with_number locator_of
+unfolding locator_values locator_with_number locator_of locator_radices
 returns c =
-    c.write_characters.ensures ∙ ap (λ (ds : List ℕ). characters_from 6 (locator_values ds)) (its_digits c)
+    c.write_characters.ensures ∙ ap (λ (ds : List ℕ). characters_from 6 (locator_values ds)) (let its : c.unpack.new.digits ≡ digits_of locator_radices (locator_part c.args.word) = c.unpack.ensures.written ∙ ap (digits_of locator_radices) c.locator_part.ensures in its)
