@@ -5,7 +5,7 @@ ghost use Rattle.basics.specs.Test.{betweenℤ};
 ghost use Rattle.extended.specs.Fields.{field_of, field_reading, legal_field, code_of};
 
 // Its lowest reading, its step and its count.
-#[derive(Drop)]
+#[derive(Clone, Copy)]
 pub struct Field {
     pub lowest: i64,
     pub step: u64,

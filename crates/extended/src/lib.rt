@@ -17,7 +17,7 @@ use u4b::channel::{Channel, FirstCharacters, is_first_character, is_third_charac
 
 // What a message says beside its readings: channel, slot and type.
 #[repr(C)]
-#[derive(Drop)]
+#[derive(Clone, Copy)]
 pub struct Header {
     pub channel: Channel,
     pub slot: u32,
@@ -25,7 +25,7 @@ pub struct Header {
 }
 
 // What a message says beside its readings, or why it says nothing: the answer of `read`.
-#[derive(Drop)]
+#[derive(Clone, Copy)]
 pub enum ExtendedAnswer {
     Extended(Header),
     Refused(Refusal),

@@ -1,4 +1,6 @@
 // A frame of 162 symbols: written from a word or a message, and strictly read to either.
+#![tactic(auto)]
+
 pub mod symbols;
 mod sync;
 mod writing;
@@ -14,7 +16,7 @@ use message::{MessageAnswer, WordAnswer};
 use refusal::{Refusal, SYMBOL_TOO_LARGE, WORD_TOO_LARGE, WRONG_LENGTH, WRONG_SYNC};
 
 // The answer of writing, beside the frame that it writes.
-#[derive(Drop)]
+#[derive(Clone, Copy)]
 pub enum WriteAnswer {
     Done,
     Refused(Refusal),

@@ -12,14 +12,14 @@ ghost use Rattle.message.specs.RoundTrip.{UnpacksBack, PacksBack, WrittenInCapit
 use refusal::{BAD_CHARACTER, BAD_POWER, Refusal, WRONG_LENGTH};
 
 // The answer of `check`.
-#[derive(Drop)]
+#[derive(Clone, Copy)]
 pub enum CheckAnswer {
     Legal,
     Refused(Refusal),
 }
 
 // A word, or why there is none: the answer of `pack`, and of what else gives a word.
-#[derive(Drop)]
+#[derive(Clone, Copy)]
 pub enum WordAnswer {
     Word(u64),
     Refused(Refusal),
@@ -27,7 +27,7 @@ pub enum WordAnswer {
 
 // The answer of a function that gives a message: its power, beside the callsign and the locator that
 // are written.
-#[derive(Drop)]
+#[derive(Clone, Copy)]
 pub enum MessageAnswer {
     Power(u32),
     Refused(Refusal),

@@ -1,7 +1,7 @@
 // A refusal by its number and place, and the numbers of the table of refusals by name.
 #![tactic(auto)]
 
-#[derive(Drop)]
+#[derive(Clone, Copy)]
 pub struct Refusal {
     pub number: u32,
     // 0 where the refusal names no place.

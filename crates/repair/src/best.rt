@@ -2,7 +2,7 @@
 ghost use Rattle.std.specs.Prelude.{◌≡◌, ◌≤◌};
 ghost use Rattle.repair.specs.Search.{none_found, best_with};
 
-#[derive(Drop)]
+#[derive(Clone, Copy)]
 pub(crate) struct Best {
     pub word: u64,
     // Its disagreements, or one above the limit where no word within it was found.

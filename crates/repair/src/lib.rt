@@ -22,7 +22,7 @@ use search::Found;
 // margin: how many more disagreements the next nearest word has. C gets it whole, in the struct of a
 // repair.
 #[repr(C)]
-#[derive(Drop)]
+#[derive(Clone, Copy)]
 pub struct Nearest {
     pub word: u64,
     pub disagreements: u32,
@@ -32,7 +32,7 @@ pub struct Nearest {
 }
 
 // The answer of a repair.
-#[derive(Drop)]
+#[derive(Clone, Copy)]
 pub enum RepairAnswer {
     Word(Nearest),
     Refused(Refusal),

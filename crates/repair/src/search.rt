@@ -8,7 +8,7 @@ use super::best::Best;
 use super::{best, cost, prefix};
 
 // What a search found: the live count, or one more than the budget, and the nearest word.
-#[derive(Drop)]
+#[derive(Clone, Copy)]
 pub(crate) struct Found {
     pub live: u32,
     pub best: Best,

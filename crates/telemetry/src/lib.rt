@@ -16,7 +16,7 @@ use u4b::channel::{Channel, FirstCharacters, SubSquare};
 
 // What the sensors of a balloon give; GPS is 0 or 1.
 #[repr(C)]
-#[derive(Drop)]
+#[derive(Clone, Copy)]
 pub struct Sensors {
     pub altitude: u32,
     pub temperature: i32,
@@ -26,7 +26,7 @@ pub struct Sensors {
 }
 
 // What is sent: the sensors in metres, tenths of a degree, millivolts and tenths of a knot.
-#[derive(Drop)]
+#[derive(Clone, Copy)]
 pub struct Measured {
     pub channel: Channel,
     pub square: SubSquare,
@@ -35,7 +35,7 @@ pub struct Measured {
 
 // What is read back: the sensors in metres, degrees, millivolts and knots.
 #[repr(C)]
-#[derive(Drop)]
+#[derive(Clone, Copy)]
 pub struct Reading {
     pub channel: Channel,
     pub square: SubSquare,
@@ -43,7 +43,7 @@ pub struct Reading {
 }
 
 // What a message says as telemetry, or why it says nothing: the answer of `read` and `read_word`.
-#[derive(Drop)]
+#[derive(Clone, Copy)]
 pub enum TelemetryAnswer {
     Telemetry(Reading),
     Refused(Refusal),

@@ -6,7 +6,7 @@ use super::channel::{FirstCharacters, is_first_character};
 use message::character::capital_of;
 
 // The characters that are taken as the first, and whether a space may stand last, in place 5.
-#[derive(Drop)]
+#[derive(Clone, Copy)]
 pub struct Alphabet {
     pub taken: FirstCharacters,
     pub last_space: bool,

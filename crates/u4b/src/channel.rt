@@ -4,7 +4,7 @@ ghost use Rattle.u4b.specs.Channel.{is_first_character, is_third_character, is_s
 
 // A channel: the first and the third character of its callsigns.
 #[repr(C)]
-#[derive(Drop)]
+#[derive(Clone, Copy)]
 pub struct Channel {
     pub first: u8,
     pub third: u8,
@@ -12,14 +12,14 @@ pub struct Channel {
 
 // A sub-square: its two letters (01: g5, g6), the fifth and the sixth character of a locator.
 #[repr(C)]
-#[derive(Drop)]
+#[derive(Clone, Copy)]
 pub struct SubSquare {
     pub grid5: u8,
     pub grid6: u8,
 }
 
 // The characters that a kind of telemetry takes as a callsign's first.
-#[derive(Drop)]
+#[derive(Clone, Copy)]
 pub enum FirstCharacters {
     ZeroOneQ,
     ZeroQ,

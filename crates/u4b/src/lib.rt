@@ -20,7 +20,7 @@ use refusal::{NOT_TELEMETRY, OUT_OF_RANGE, Refusal, WRONG_LENGTH};
 
 // The channel, and the two numbers (01: A and B in basic telemetry): below 632,736 and 615,600 where
 // they are a message's.
-#[derive(Drop)]
+#[derive(Clone, Copy)]
 pub struct Payload {
     pub channel: Channel,
     pub upper: u64,
@@ -28,7 +28,7 @@ pub struct Payload {
 }
 
 // The answer of `read`.
-#[derive(Drop)]
+#[derive(Clone, Copy)]
 pub enum PayloadAnswer {
     Payload(Payload),
     Refused(Refusal),

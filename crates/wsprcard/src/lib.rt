@@ -43,7 +43,7 @@ const NO_READING: Reading = Reading {
 
 // Refusal number (0: success) and place.
 #[repr(C)]
-#[derive(Drop)]
+#[derive(Clone, Copy)]
 pub struct WsprWritten {
     pub refusal: u32,
     pub place: u32,
@@ -51,7 +51,7 @@ pub struct WsprWritten {
 
 // Refusal number (0: success), place, and the word.
 #[repr(C)]
-#[derive(Drop)]
+#[derive(Clone, Copy)]
 pub struct WsprWord {
     pub refusal: u32,
     pub place: u32,
@@ -60,7 +60,7 @@ pub struct WsprWord {
 
 // Refusal number (0: success), place, and the power of a message.
 #[repr(C)]
-#[derive(Drop)]
+#[derive(Clone, Copy)]
 pub struct WsprMessage {
     pub refusal: u32,
     pub place: u32,
@@ -71,7 +71,7 @@ pub struct WsprMessage {
 // `nearest` are the struct's own, one after another: they start where its first would stand, at byte 8,
 // and no padding follows them.
 #[repr(C)]
-#[derive(Drop)]
+#[derive(Clone, Copy)]
 pub struct WsprRepaired {
     pub refusal: u32,
     pub place: u32,
@@ -81,7 +81,7 @@ pub struct WsprRepaired {
 // Refusal number (0: success), place, and the readings of a telemetry message: to C, as above, the
 // struct's own fields.
 #[repr(C)]
-#[derive(Drop)]
+#[derive(Clone, Copy)]
 pub struct U4bReading {
     pub refusal: u32,
     pub place: u32,
