@@ -1,5 +1,7 @@
 // A U4B message: the channel's two characters and two numbers, in a WSPR message and back. The upper
 // number stands in the callsign, the lower one in the locator and the power.
+#![tactic(auto)]
+
 pub mod alphabet;
 mod callsign;
 pub mod channel;
