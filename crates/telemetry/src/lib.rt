@@ -1,4 +1,6 @@
 // U4B basic telemetry: what a balloon measured, to and from a message.
+#![tactic(auto)]
+
 mod codes;
 mod range;
 

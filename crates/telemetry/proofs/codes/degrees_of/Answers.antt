@@ -9,22 +9,11 @@ use mir.Syntax.{w32}
 use mir.Val.{to_z}
 use Rattle.telemetry.specs.Codes.{degrees}
 use Rattle.telemetry.proofs.CodeLaws.{degrees_fits}
-use borrow.Author.Rules.{rules}
-use Rattle.telemetry.proofs.codes.degrees_of.Statement.{statement}
-use Rattle.telemetry.proofs.codes.degrees_of.Tie as tie
+use Rattle.telemetry.proofs.codes.degrees_of.Goals as goal
 
 difference : (code : ℕ) → code ≤ 89 → to_z w32 code -ℤ pos 50 ≡ degrees code
 unfolding degrees
 difference code h = rw (to_z_pos w32 {n = code} (omega arith))
 
-cast-result : tie.Need-overflow-cast-result
-cast-result c = search rules
-
-sub-result : tie.Need-overflow-sub-result
-sub-result c = rw (difference c.args.code c.requires) (degrees_fits c.args.code (omega (arith, c.requires)))
-
-returns : tie.Need-returns
+pub returns : goal.returns
 returns c = rw (difference c.args.code c.requires) (to_z-of_z (degrees_fits c.args.code (omega (arith, c.requires))))
-
-pub degrees-of-spec : {M : Type 1} → statement M
-degrees-of-spec = tie.close (tie.spec cast-result sub-result returns)
