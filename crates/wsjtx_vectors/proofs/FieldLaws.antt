@@ -6,14 +6,22 @@ use native.Mathlib.Numerals.{sub-one}
 use native.Mathlib.Omega.{arith}
 use mathlib.Core.List.{List}
 use lib.ListN.{length, take, drop, drop_of_length-le}
-use lib.Seq.{take-length, drop-drop}
-use Rattle.bytes.specs.Bytes.{slice, index_of}
-use Rattle.wsjtx_vectors.specs.Field.{bar, before_bar, after_bar, field_at}
+use lib.Seq.{drop-drop}
+use Rattle.std.specs.Prelude.{Some, None, not, eqb}
+use Rattle.std.specs.List.{position}
+use Rattle.std.proofs.lemmas.Grind.{common_steps}
+use Rattle.std.proofs.lemmas.List.Sums.{prefix_len-le-length}
+use Rattle.wsjtx_vectors.specs.Field.{bar, index_of, before_bar, after_bar, field_at}
 
--- The range that is searched is the rest of the line.
-pub to_the_end : (line : List ℕ) (from : ℕ) → slice from (length line) line ≡ drop from line
-unfolding slice
-to_the_end line from = rw (take-length line)
+-- Where `position` finds a byte, and where it finds none.
+module _ (byte : ℕ) (text : List ℕ) where
+  pub found_at : (i : ℕ) → Some i ≡ position (λ b. eqb b byte) text → i ≡ index_of byte text
+  unfolding index_of
+  found_at i h = grind (arith, common_steps)
+
+  pub found_nowhere : None ≡ position (λ b. eqb b byte) text → length text ≡ index_of byte text
+  unfolding index_of
+  found_nowhere h = let below = prefix_len-le-length (λ b. not (eqb b byte)) text in grind (arith, common_steps)
 
 module _ (line : List ℕ) (from end : ℕ) (found : end ≡ from + index_of bar (drop from line)) where
   pub field_between : take (end - from) (drop from line) ≡ field_at 0 (drop from line)

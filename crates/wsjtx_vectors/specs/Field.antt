@@ -1,6 +1,10 @@
 -- The fields of a line, which bars part.
-use Rattle.std.specs.Prelude.{ℕ, zero, suc, ◌+◌, List, take, drop}
-use Rattle.bytes.specs.Bytes.{index_of}
+use Rattle.std.specs.Prelude.{ℕ, zero, suc, ◌+◌, ◌==◌, List, take, drop}
+use Rattle.std.specs.List.{position_or_len}
+
+-- Where a byte first stands in a text; the text's length where it doesn't.
+unfoldable pub index_of : ℕ → List ℕ → ℕ
+index_of byte text = position_or_len (λ b. b == byte) text
 
 -- |
 abbrev pub bar : ℕ

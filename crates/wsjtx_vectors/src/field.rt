@@ -1,7 +1,8 @@
 // The fields of a line: what stands between its bars, counted from 0.
 ghost use Rattle.std.specs.Prelude.{◌≡◌, ◌+◌, ◌≤◌, length, drop};
-ghost use Rattle.bytes.specs.Bytes.{index_of};
-ghost use Rattle.wsjtx_vectors.specs.Field.{bar, after_bar, field_at};
+ghost use Rattle.wsjtx_vectors.specs.Field.{bar, index_of, after_bar, field_at};
+
+use super::scan::find;
 
 // The end of the field that starts at `from`: the next bar, or the line's end.
 fn field_end(line: &[u8], from: usize) -> usize
@@ -9,7 +10,7 @@ fn field_end(line: &[u8], from: usize) -> usize
     ensures value { result ≡ from + index_of bar (drop from line.now) }
     ensures upper_bound { result ≤ length line.now }
 {
-    bytes::scan::find(line, from, line.len(), b'|')
+    find(line, from, b'|')
 }
 
 // The start of the field after the one that starts at `from`; the line's end where there is none.

@@ -8,98 +8,116 @@
 //
 // with the vector's own fields. The file stdin has what wsprsim and wsprcode of WSJT-X 2.6.1 both
 // print, and stdout has it in this order.
+#![tactic(auto)]
+
 mod field;
 mod number;
 mod output;
+mod scan;
 mod vector;
 
 ghost use Rattle.std.specs.Prelude.{◌≡◌, length};
 ghost use Rattle.wsjtx_vectors.specs.Field.{field_at};
 
 use field::field;
-use libc::STDIN_FILENO;
 use output::{print, print_bar, print_message_answer, print_word_answer, print_write_answer};
+use scan::find;
+use std::io;
+use std::io::{BufWriter, Read, Write};
 use vector::Vector;
 
-fn print_frame_of_message(callsign: &[u8], locator: &[u8], power: u32) {
+fn print_frame_of_message<W: Write>(
+    out: &mut W,
+    callsign: &[u8],
+    locator: &[u8],
+    power: u32,
+) -> io::Result<()> {
     let mut symbols = [0u8; 162];
     let answer = frame::write_message(callsign, locator, power, &mut symbols);
-    print_write_answer(answer, &symbols);
+    print_write_answer(out, answer, &symbols)
 }
 
-fn print_frame_of_word(word: u64) {
+fn print_frame_of_word<W: Write>(out: &mut W, word: u64) -> io::Result<()> {
     let mut symbols = [0u8; 162];
     let answer = frame::write_word(word, &mut symbols);
-    print_write_answer(answer, &symbols);
+    print_write_answer(out, answer, &symbols)
 }
 
-fn print_message_of_word(word: u64) {
+fn print_message_of_word<W: Write>(out: &mut W, word: u64) -> io::Result<()> {
     let mut callsign = [0u8; 6];
     let mut locator = [0u8; 4];
     let answer = message::unpack(word, &mut callsign, &mut locator);
-    print_message_answer(answer, &callsign, &locator);
+    print_message_answer(out, answer, &callsign, &locator)
 }
 
-fn print_message_of_symbols(symbols: &[u8]) {
+fn print_message_of_symbols<W: Write>(out: &mut W, symbols: &[u8]) -> io::Result<()> {
     let mut callsign = [0u8; 6];
     let mut locator = [0u8; 4];
     let answer = frame::read_message(symbols, &mut callsign, &mut locator);
-    print_message_answer(answer, &callsign, &locator);
+    print_message_answer(out, answer, &callsign, &locator)
 }
 
 // What the vector's message gives: the word and the frame.
-fn print_answers_of_message(callsign: &[u8], locator: &[u8], power: u32) {
-    print_word_answer(message::pack(callsign, locator, power));
-    print_bar();
-    print_frame_of_message(callsign, locator, power);
+fn print_answers_of_message<W: Write>(
+    out: &mut W,
+    callsign: &[u8],
+    locator: &[u8],
+    power: u32,
+) -> io::Result<()> {
+    print_word_answer(out, message::pack(callsign, locator, power))?;
+    print_bar(out)?;
+    print_frame_of_message(out, callsign, locator, power)
 }
 
 // What the vector's word gives: the frame and the message.
-fn print_answers_of_word(word: u64) {
-    print_frame_of_word(word);
-    print_bar();
-    print_message_of_word(word);
+fn print_answers_of_word<W: Write>(out: &mut W, word: u64) -> io::Result<()> {
+    print_frame_of_word(out, word)?;
+    print_bar(out)?;
+    print_message_of_word(out, word)
 }
 
 // What the vector's symbols give: the word and the message.
-fn print_answers_of_symbols(symbols: &[u8]) {
-    print_word_answer(frame::read_word(symbols));
-    print_bar();
-    print_message_of_symbols(symbols);
+fn print_answers_of_symbols<W: Write>(out: &mut W, symbols: &[u8]) -> io::Result<()> {
+    print_word_answer(out, frame::read_word(symbols))?;
+    print_bar(out)?;
+    print_message_of_symbols(out, symbols)
 }
 
 // The line is a vector, so its fifth field has 162 bytes.
-fn print_answers(line: &[u8], power: u32, word: u64)
+fn print_answers<W: Write>(out: &mut W, line: &[u8], power: u32, word: u64) -> io::Result<()>
     requires { length (field_at 4 line.now) ≡ 162 }
 {
-    print_answers_of_message(field(line, 0), field(line, 1), power);
-    print_bar();
-    print_answers_of_word(word);
-    print_bar();
-    print_answers_of_symbols(&vector::read_symbols(field(line, 4)));
+    print_answers_of_message(out, field(line, 0), field(line, 1), power)?;
+    print_bar(out)?;
+    print_answers_of_word(out, word)?;
+    print_bar(out)?;
+    print_answers_of_symbols(out, &vector::read_symbols(field(line, 4)))
 }
 
-fn print_vector(line: &[u8]) {
+fn print_vector<W: Write>(out: &mut W, line: &[u8]) -> io::Result<()> {
     match vector::read(line) {
-        Vector::PowerAndWord { power, word } => print_answers(line, power, word),
-        Vector::Malformed => print(b"malformed"),
+        Vector::PowerAndWord { power, word } => print_answers(out, line, power, word)?,
+        Vector::Malformed => print(out, b"malformed")?,
     }
-    print(b"\n");
+    print(out, b"\n")
 }
 
 // A last line that no newline ends counts too.
-fn print_vectors(text: &[u8]) {
+fn print_vectors<W: Write>(out: &mut W, text: &[u8]) -> io::Result<()> {
     let mut from = 0;
     while from < text.len() {
-        let end = bytes::scan::find(text, from, text.len(), b'\n');
-        print_vector(&text[from..end]);
+        let end = find(text, from, b'\n');
+        print_vector(out, &text[from..end])?;
         from = end + 1;
     }
+    Ok(())
 }
 
-// The buffer has room for 65,536 bytes; of a longer input it takes the start.
-fn main() {
-    let mut text = io::large_buffer();
-    let count = io::read_full(STDIN_FILENO, &mut text);
-    print_vectors(&text[..count]);
+// The text has room for 65,536 bytes; of a longer input it takes the start.
+fn main(rt: HostRuntime) -> io::Result<()> {
+    let mut text = Vec::new(rt.alloc());
+    rt.reader().take(65_536).read_to_end(&mut text)?;
+    let mut out = BufWriter::new(rt.alloc(), io::writer(&rt))?;
+    print_vectors(&mut out, &text)?;
+    out.flush()
 }

@@ -1,62 +1,73 @@
 // Prints what is answered: a word, a frame, a message, or in its stead the refusal.
 use frame::WriteAnswer;
-use libc::STDOUT_FILENO;
 use message::{MessageAnswer, WordAnswer};
 use refusal::Refusal;
+use std::io;
+use std::io::Write;
 
-pub(crate) fn print(text: &[u8]) {
-    io::write_all(STDOUT_FILENO, text);
+pub(crate) fn print<W: Write>(out: &mut W, text: &[u8]) -> io::Result<()> {
+    out.write_all(text)
 }
 
-pub(crate) fn print_bar() {
-    print(b"|");
+pub(crate) fn print_bar<W: Write>(out: &mut W) -> io::Result<()> {
+    print(out, b"|")
 }
 
-fn print_refusal(refusal: Refusal) {
-    print(b"refused ");
-    io::print_decimal(STDOUT_FILENO, refusal.number as u64);
-    print(b" ");
-    io::print_decimal(STDOUT_FILENO, refusal.place as u64);
+fn print_refusal<W: Write>(out: &mut W, refusal: Refusal) -> io::Result<()> {
+    write!(out, "refused {} {}", refusal.number, refusal.place)
 }
 
 // A word is printed with as many digits as a vector's word has.
-fn print_word(word: u64) {
-    io::print_hex(STDOUT_FILENO, word, 13);
+fn print_word<W: Write>(out: &mut W, word: u64) -> io::Result<()> {
+    write!(out, "{word:013x}")
 }
 
-pub(crate) fn print_word_answer(answer: WordAnswer) {
+pub(crate) fn print_word_answer<W: Write>(out: &mut W, answer: WordAnswer) -> io::Result<()> {
     match answer {
-        WordAnswer::Word(word) => print_word(word),
-        WordAnswer::Refused(refusal) => print_refusal(refusal),
+        WordAnswer::Word(word) => print_word(out, word),
+        WordAnswer::Refused(refusal) => print_refusal(out, refusal),
     }
 }
 
-fn print_symbols(symbols: &[u8]) {
-    let mut i = 0;
-    while i < symbols.len() {
-        io::print_decimal(STDOUT_FILENO, symbols[i] as u64);
-        i += 1;
+fn print_symbols<W: Write>(out: &mut W, symbols: &[u8]) -> io::Result<()> {
+    for symbol in symbols {
+        write!(out, "{symbol}")?;
+    }
+    Ok(())
+}
+
+pub(crate) fn print_write_answer<W: Write>(
+    out: &mut W,
+    answer: WriteAnswer,
+    symbols: &[u8],
+) -> io::Result<()> {
+    match answer {
+        WriteAnswer::Done => print_symbols(out, symbols),
+        WriteAnswer::Refused(refusal) => print_refusal(out, refusal),
     }
 }
 
-pub(crate) fn print_write_answer(answer: WriteAnswer, symbols: &[u8]) {
-    match answer {
-        WriteAnswer::Done => print_symbols(symbols),
-        WriteAnswer::Refused(refusal) => print_refusal(refusal),
-    }
+fn print_message<W: Write>(
+    out: &mut W,
+    callsign: &[u8],
+    locator: &[u8],
+    power: u32,
+) -> io::Result<()> {
+    print(out, callsign)?;
+    print_bar(out)?;
+    print(out, locator)?;
+    print_bar(out)?;
+    write!(out, "{power}")
 }
 
-fn print_message(callsign: &[u8], locator: &[u8], power: u32) {
-    print(callsign);
-    print_bar();
-    print(locator);
-    print_bar();
-    io::print_decimal(STDOUT_FILENO, power as u64);
-}
-
-pub(crate) fn print_message_answer(answer: MessageAnswer, callsign: &[u8], locator: &[u8]) {
+pub(crate) fn print_message_answer<W: Write>(
+    out: &mut W,
+    answer: MessageAnswer,
+    callsign: &[u8],
+    locator: &[u8],
+) -> io::Result<()> {
     match answer {
-        MessageAnswer::Power(power) => print_message(callsign, locator, power),
-        MessageAnswer::Refused(refusal) => print_refusal(refusal),
+        MessageAnswer::Power(power) => print_message(out, callsign, locator, power),
+        MessageAnswer::Refused(refusal) => print_refusal(out, refusal),
     }
 }

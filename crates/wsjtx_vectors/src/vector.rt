@@ -7,7 +7,7 @@ use super::number;
 use super::number::{Number, digit_value};
 
 // What a line says.
-#[derive(Drop)]
+#[derive(Clone, Copy)]
 pub(crate) enum Vector {
     PowerAndWord { power: u32, word: u64 },
     Malformed,
