@@ -1,6 +1,7 @@
 -- The ranges of what is measured (01, 'Telemetry').
-use Rattle.std.specs.Prelude.{ℕ, ◌≡◌, Bool, List, [], ◌∷◌, ℤ, pos, neg_ℤ}
-use Rattle.basics.specs.Test.{between, betweenℤ}
+use Rattle.std.specs.Prelude.{ℕ, ◌≡◌, Bool, ◌&&◌, List, [], ◌∷◌, ℤ, pos, neg_ℤ}
+use Rattle.std.specs.Int.Signed.{le_z}
+use Rattle.basics.specs.Test.{between}
 use Rattle.basics.specs.Lists.{first_false}
 use Rattle.u4b.specs.Channel.{is_first_character, is_third_character, is_sub_square}
 use Rattle.u4b.specs.declared.channel.FirstCharacters.{FirstCharacters}
@@ -8,7 +9,7 @@ use Rattle.telemetry.specs.declared.Measured.{Measured}
 
 -- "Temperature -500 to 399 in tenths of a degree"
 unfoldable pub temperature_in_range : ℤ → Bool
-temperature_in_range tenths = betweenℤ (neg_ℤ (pos 500)) (pos 399) tenths
+temperature_in_range tenths = le_z (neg_ℤ (pos 500)) tenths && le_z tenths (pos 399)
 
 -- What is measured, in the order of the places: "0 first character, 1 third, 2 g5, 3 g6, 4 altitude, 5 temperature, 6 voltage, 7 speed,
 -- 8 GPS"; each is in its range.
