@@ -18,7 +18,8 @@ use Rattle.distance.proofs.Recentred.{zero_bits, coded_bits_zero}
 use Rattle.trellis.proofs.Steps.{end_of, weight_of, end_append, FirstOne, Stays, zeros_or_one}
 use Rattle.trellis.proofs.States.{onward, weight_coded, end_zero, end_below}
 use Rattle.trellis.proofs.Running.{zero_free, counted_weight, weight_counted}
-use Rattle.trellis.proofs.Onward.{onward_running, ahead_response, onward_response}
+use Rattle.trellis.proofs.Onward.{ahead_response, onward_response}
+use Rattle.trellis.proofs.OnwardLaws.{onward_running}
 use Rattle.least_distance.specs.Least.{LeastDistance}
 use Rattle.least_distance.proofs.Meeting.{never_light}
 

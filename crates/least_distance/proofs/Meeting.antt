@@ -13,7 +13,8 @@ use Rattle.distance.proofs.Bits.{AllBits, bits_parts}
 use Rattle.trellis.proofs.Steps.{end_of, weight_of, end_append, weight_append, Cut, within_or_cut, FirstOne}
 use Rattle.trellis.proofs.States.{onward, backward, turned}
 use Rattle.trellis.proofs.Running.{one_weighs}
-use Rattle.trellis.proofs.Onward.{ahead_response, onward_counts, onward_response, onward_running}
+use Rattle.trellis.proofs.Onward.{ahead_response, onward_counts, onward_response}
+use Rattle.trellis.proofs.OnwardLaws.{onward_running}
 use Rattle.trellis.proofs.Backward.{behind_response, backward_counts, backward_response, backward_running}
 use Rattle.trellis.proofs.Reached.{if_left, reached, reached_keeps, one_reached, zero_reached}
 use Rattle.trellis.proofs.Common.{In, halved, parted, nothing_common, never_common}

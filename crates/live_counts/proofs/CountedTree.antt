@@ -13,7 +13,8 @@ use Rattle.distance.proofs.Bits.{AllBits, alike, not_alike}
 use Rattle.distance.proofs.StepLaws.{step_others}
 use Rattle.distance.proofs.Tree.{step, step_live, step_dead, tree, live_count_tree}
 use Rattle.trellis.proofs.States.{clocked_state, next_state}
-use Rattle.trellis.proofs.Onward.{onward_counts, onward_response, onward_running, onward_first_coded, onward_second_coded}
+use Rattle.trellis.proofs.Onward.{onward_counts, onward_response}
+use Rattle.trellis.proofs.OnwardLaws.{onward_running, onward_first_coded, onward_second_coded}
 
 -- ---- Computed
 

@@ -1,5 +1,7 @@
 // Repair (nearest-codeword decoding): the one word that is nearest to received symbols, found by a
 // bounded search.
+#![tactic(auto)]
+
 mod best;
 mod cost;
 mod prefix;
