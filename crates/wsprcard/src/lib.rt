@@ -1,5 +1,7 @@
 // The card's functions for a host in C, declared in include/wsprcard.h: each is a thin layer over
 // that of its crate, with the answer's result numbers in a struct.
+#![tactic(auto)]
+
 ghost use Rattle.std.specs.Prelude.{◌≡◌};
 ghost use Rattle.message.specs.Character.{capital_form};
 ghost use Rattle.message.specs.Answer.{message_packed, word_unpacked, callsign_after_unpack, locator_after_unpack, word_numbers, message_numbers};
