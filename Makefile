@@ -6,10 +6,10 @@ CARD = target/staticlib/libwsprcard.a
 LINE_PROGRAM = target/bin/telemetry_lines
 
 # The C programs of tests/c. What each is to print stands beside it, in tests/c/NAME.stdout.
-INTERFACE = messages frames repair telemetry extended layout
+INTERFACE = messages frames repair telemetry layout
 
 # The files of the benchmark: the calls by hand in C, and what measures them beside the library's.
-BENCH = bench calls inputs spread symbols message frame search telemetry extended
+BENCH = bench calls inputs spread symbols message frame search telemetry
 
 .PHONY: all run install test outside hostile fuzz fuzz-random fuzz-reference fuzz-reference-covered bench library program clean
 

@@ -39,21 +39,11 @@ static const struct measured {
     {"repair, over budget, limit 12", &repair, draw_frame_of_word, 12, 65536, 16, 32, 1},
     {"write telemetry", &write_report, draw_report, 0, 1, 0, INPUTS, 20},
     {"read telemetry", &read_report, draw_message_of_report, 0, 1, 0, INPUTS, 20},
-    {"write extended, 8 fields", &write_extended, draw_extended, 0, 1, 0, INPUTS, 5},
-    {"read extended, 8 fields", &read_extended, draw_message_of_extended, 0, 1, 0, INPUTS, 5},
 };
 
 enum { CASES = sizeof cases / sizeof *cases };
 
 static size_t answers_held, refusals_held;
-
-/* The bytes between the numbers of a result, of which the calls say nothing. Only one of the structs has any. */
-static void clear_padding(u4b_extended *e)
-{
-    size_t start = offsetof(u4b_extended, third) + sizeof e->third;
-
-    memset((uint8_t *)e + start, 0, offsetof(u4b_extended, slot) - start);
-}
 
 /* The answer to one input. Buffers that aren't written keep what they held. */
 static answer answer_of(const layer *l, size_t k, const inputs *in, size_t i)
@@ -62,16 +52,13 @@ static answer answer_of(const layer *l, size_t k, const inputs *in, size_t i)
 
     memset(&out, '.', sizeof out);
     l->run(l->calls[k], in, i, i + 1, &out);
-    if (l == &read_extended)
-        clear_padding(&out.result.extended);
     return out;
 }
 
 static int same(const layer *l, const answer *a, const answer *b)
 {
     return !memcmp(&a->result, &b->result, l->result_size) && !memcmp(a->callsign, b->callsign, CALLSIGN) &&
-           !memcmp(a->locator, b->locator, LOCATOR) && !memcmp(a->frame, b->frame, SYMBOLS) &&
-           !memcmp(a->readings, b->readings, sizeof a->readings);
+           !memcmp(a->locator, b->locator, LOCATOR) && !memcmp(a->frame, b->frame, SYMBOLS);
 }
 
 /* Holds a call by hand to the card's answer to every input. This warms both up, too. */

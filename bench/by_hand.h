@@ -25,11 +25,4 @@ wspr_message hand_u4b_write(uint8_t first, uint8_t third, uint8_t grid5, uint8_t
 u4b_reading hand_u4b_read(const uint8_t *callsign, size_t callsign_len, const uint8_t *locator, size_t locator_len,
                           uint32_t power);
 
-wspr_message hand_u4b_write_extended(uint8_t first, uint8_t third, uint32_t slot, uint32_t type, const int64_t *fields,
-                                     size_t fields_len, const int64_t *readings, size_t readings_len,
-                                     uint8_t *callsign, size_t callsign_len, uint8_t *locator, size_t locator_len);
-u4b_extended hand_u4b_read_extended(const uint8_t *callsign, size_t callsign_len, const uint8_t *locator,
-                                    size_t locator_len, uint32_t power, const int64_t *fields, size_t fields_len,
-                                    int64_t *readings, size_t readings_len);
-
 #endif

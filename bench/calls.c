@@ -76,27 +76,6 @@ static void run_read_report(any_call *call, const inputs *in, size_t from, size_
         out->result.reading = typed(m->callsign, in->callsign_len, m->locator, in->locator_len, m->power);
 }
 
-static void run_write_extended(any_call *call, const inputs *in, size_t from, size_t to, answer *out)
-{
-    __typeof__(u4b_write_extended) *typed = (__typeof__(u4b_write_extended) *)call;
-
-    for (const extended_report *r = in->extended + from; r < in->extended + to; r++)
-        out->result.message = typed(r->first, r->third, r->slot, r->type, r->fields, in->fields_len, r->readings,
-                                    in->readings_len, out->callsign, in->callsign_len, out->locator, in->locator_len);
-}
-
-static void run_read_extended(any_call *call, const inputs *in, size_t from, size_t to, answer *out)
-{
-    __typeof__(u4b_read_extended) *typed = (__typeof__(u4b_read_extended) *)call;
-
-    for (size_t i = from; i < to; i++) {
-        const message *m = &in->messages[i];
-
-        out->result.extended = typed(m->callsign, in->callsign_len, m->locator, in->locator_len, m->power,
-                                     in->extended[i].fields, in->fields_len, out->readings, in->readings_len);
-    }
-}
-
 #define ANY(call) ((any_call *)(call))
 
 const layer pack = {run_pack, {ANY(wspr_pack), ANY(hand_pack)}, sizeof(wspr_word), spoil_message};
@@ -119,11 +98,4 @@ const layer write_report = {
 };
 const layer read_report = {
     run_read_report, {ANY(u4b_read), ANY(hand_u4b_read)}, sizeof(u4b_reading), spoil_message_of_report,
-};
-const layer write_extended = {
-    run_write_extended, {ANY(u4b_write_extended), ANY(hand_u4b_write_extended)}, sizeof(wspr_message), spoil_extended,
-};
-const layer read_extended = {
-    run_read_extended, {ANY(u4b_read_extended), ANY(hand_u4b_read_extended)}, sizeof(u4b_extended),
-    spoil_message_of_extended,
 };

@@ -18,10 +18,8 @@ typedef struct {
         wspr_message message;
         wspr_repaired repaired;
         u4b_reading reading;
-        u4b_extended extended;
     } result;
     uint8_t callsign[CALLSIGN], locator[LOCATOR], frame[SYMBOLS];
-    int64_t readings[FIELDS];
 } answer;
 
 /* Calls with the inputs from `from` up to `to`. The last answer stays. */
@@ -30,11 +28,10 @@ typedef void run(any_call *call, const inputs *in, size_t from, size_t to, answe
 typedef struct {
     run *run;
     any_call *calls[CALLS];
-    size_t result_size; /* all its bytes are compared */
+    size_t result_size; /* of a struct without padding: all its bytes are compared */
     draw *spoil;
 } layer;
 
 extern const layer pack, unpack, write_word, write_message, read_word, read_message, repair, write_report, read_report;
-extern const layer write_extended, read_extended;
 
 #endif

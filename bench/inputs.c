@@ -134,65 +134,6 @@ void draw_message_of_report(inputs *in, size_t i)
                          r->gps, m->callsign, CALLSIGN, m->locator, LOCATOR).power;
 }
 
-/* The largest product of a table's counts. */
-#define MOST_CODES INT64_C(608612940)
-
-/* A count that leaves two for each of the other fields in the room that is left, small ones as often as large ones. */
-static int64_t draw_count(int64_t room, uint32_t others)
-{
-    uint64_t most = (uint64_t)room >> others, any = random_number() % (most - 1);
-
-    return 2 + (int64_t)(any >> below(30));
-}
-
-/* The fields' numbers lie anywhere within signed 32 bits. */
-static void draw_field(int64_t *field, int64_t count)
-{
-    uint64_t widest = UINT32_MAX / (uint64_t)(count - 1), any = random_number() % widest;
-    int64_t step = 1 + (int64_t)(any >> below(32));
-    int64_t left = UINT32_MAX - step * (count - 1);
-
-    field[0] = INT32_MIN + (int64_t)(random_number() % (uint64_t)(left + 1));
-    field[1] = step;
-    field[2] = count;
-}
-
-/* A reading of the field, or up to a step below its lowest or above its highest. */
-static int64_t draw_reading(const int64_t *field)
-{
-    uint64_t span = (uint64_t)field[1] * (uint64_t)(field[2] + 1);
-
-    return field[0] - field[1] + (int64_t)(random_number() % (span + 1));
-}
-
-void draw_extended(inputs *in, size_t i)
-{
-    extended_report *r = &in->extended[i];
-    int64_t room = MOST_CODES;
-
-    r->first = one_of("01Q", 3);
-    r->third = one_of("0123456789", 10);
-    r->slot = below(5);
-    r->type = below(16);
-    for (uint32_t k = 0; k < FIELDS; k++) {
-        int64_t *field = r->fields + 3 * k;
-
-        draw_field(field, draw_count(room, FIELDS - 1 - k));
-        room /= field[2];
-        r->readings[k] = draw_reading(field);
-    }
-}
-
-void draw_message_of_extended(inputs *in, size_t i)
-{
-    extended_report *r = &in->extended[i];
-    message *m = &in->messages[i];
-
-    draw_extended(in, i);
-    m->power = u4b_write_extended(r->first, r->third, r->slot, r->type, r->fields, 3 * FIELDS, r->readings, FIELDS,
-                                  m->callsign, CALLSIGN, m->locator, LOCATOR).power;
-}
-
 static void make_small(uint8_t *bytes, size_t count)
 {
     for (size_t i = 0; i < count; i++)
@@ -283,59 +224,11 @@ void spoil_report(inputs *in, size_t i)
     }
 }
 
-/* A number at or past an end: of a lowest or highest, of a step, of a count, of their product, or of the type. */
-static int64_t draw_end(void)
-{
-    static const int64_t ends[] = {
-        INT64_MIN, INT32_MIN, -1, 0, 1, 2, MOST_CODES >> (FIELDS - 1), MOST_CODES, INT32_MAX, UINT32_MAX, INT64_MAX,
-    };
-    int64_t end = ends[below(sizeof ends / sizeof *ends)], beside = below(3);
-
-    return end == INT64_MIN ? end + beside : end - beside;
-}
-
-void spoil_extended(inputs *in, size_t i)
-{
-    extended_report *r = &in->extended[i];
-
-    switch (below(6)) {
-    case 0: r->first = (uint8_t)below(128); break;
-    case 1: r->third = (uint8_t)below(128); break;
-    case 2: r->slot = below(10); break;
-    case 3: r->type = below(32); break;
-    case 4: r->readings[below(FIELDS)] = draw_end(); break;
-    default: r->fields[below(3 * FIELDS)] = draw_end(); break;
-    }
-}
-
-/* Also to another number in the locator and the power, and to a table whose product the message's number may pass. */
-void spoil_message_of_extended(inputs *in, size_t i)
-{
-    message *m = &in->messages[i];
-
-    switch (below(4)) {
-    case 0:
-        m->locator[3] = one_of("0123456789", 10);
-        m->power = powers[below(POWERS)];
-        break;
-    case 1:
-        in->extended[i].fields[3 * below(FIELDS) + 2] = 2;
-        break;
-    case 2:
-        spoil_extended(in, i);
-        break;
-    default:
-        spoil_message(in, i);
-    }
-}
-
 void set_common(inputs *in, uint32_t limit, uint32_t budget, uint32_t way)
 {
     in->callsign_len = way == 1 ? CALLSIGN - 1 : CALLSIGN;
     in->locator_len = way == 2 ? LOCATOR - 1 : LOCATOR;
     in->frame_len = way == 3 ? SYMBOLS - 1 : SYMBOLS;
-    in->fields_len = way == 7 ? 3 * FIELDS - 1 : 3 * FIELDS;
-    in->readings_len = way == 8 ? FIELDS - 1 : FIELDS;
     in->limit = way == 4 ? 13 : limit;
     in->budget = way == 5 ? 0 : way == 6 ? 65537 : budget;
 }

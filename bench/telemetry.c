@@ -1,10 +1,20 @@
 /* U4B basic telemetry by hand: two numbers by Horner's rule, and their digits by divisions by constants. */
-#include "telemetry.h"
-
 #include "by_hand.h"
+#include "message.h"
 
 #define POSITIONS 615168
 #define SENSORS 604800
+
+static int is_first(uint8_t byte)
+{
+    return byte == '0' || byte == '1' || byte == 'Q';
+}
+
+/* The capital of a small letter; any other byte as it is. */
+static uint8_t capital_of(uint8_t byte)
+{
+    return byte >= 'a' && byte <= 'z' ? (uint8_t)(byte - 'a' + 'A') : byte;
+}
 
 static int is_sub_square(uint8_t byte)
 {
@@ -39,21 +49,13 @@ static uint32_t write_sensors(uint32_t number, uint8_t *locator)
     return powers[number % POWERS];
 }
 
-uint32_t write_telemetry(uint8_t first, uint8_t third, uint32_t a, uint32_t b, uint8_t *callsign, uint8_t *locator)
-{
-    callsign[0] = first;
-    callsign[2] = third;
-    write_position(a, callsign);
-    return write_sensors(b, locator);
-}
-
 /* The place of the first input that is out of its range, or 9. */
 static uint32_t first_out_of_range(uint8_t first, uint8_t third, uint8_t grid5, uint8_t grid6, uint32_t altitude,
                                    int32_t temperature, uint32_t voltage, uint32_t speed, uint32_t gps)
 {
     if (!is_first(first))
         return 0;
-    if (!is_third(third))
+    if (third < '0' || third > '9')
         return 1;
     if (!is_sub_square(grid5))
         return 2;
@@ -84,7 +86,10 @@ wspr_message hand_u4b_write(uint8_t first, uint8_t third, uint8_t grid5, uint8_t
     position = ((grid5 - 'A') * 24u + (grid6 - 'A')) * 1068 + altitude / 20;
     sensors = (uint32_t)(temperature + 500) / 10 * 40 + (voltage - 2000) / 50 % 40;
     sensors = ((sensors * 42 + speed / 20) * 2 + gps) * 2 + 1;
-    return (wspr_message){.power = write_telemetry(first, third, position, sensors, callsign, locator)};
+    callsign[0] = first;
+    callsign[2] = third;
+    write_position(position, callsign);
+    return (wspr_message){.power = write_sensors(sensors, locator)};
 }
 
 static u4b_reading unread(uint32_t refusal, uint32_t place)
@@ -93,33 +98,45 @@ static u4b_reading unread(uint32_t refusal, uint32_t place)
 }
 
 /* What a channel and two numbers say that are basic telemetry's. */
-static u4b_reading reading_of(telemetry t)
+static u4b_reading reading_of(uint8_t first, uint8_t third, uint32_t position, uint32_t sensors)
 {
     return (u4b_reading){
-        .first = t.first,
-        .third = t.third,
-        .grid5 = (uint8_t)('A' + t.a / (24 * 1068)),
-        .grid6 = (uint8_t)('A' + t.a / 1068 % 24),
-        .altitude = 20 * (t.a % 1068),
-        .temperature = (int32_t)(t.b / (40 * 42 * 4)) - 50,
-        .voltage = 3000 + 50 * ((t.b / (42 * 4) + 20) % 40),
-        .speed = 2 * (t.b / 4 % 42),
-        .gps = t.b / 2 % 2,
+        .first = first,
+        .third = third,
+        .grid5 = (uint8_t)('A' + position / (24 * 1068)),
+        .grid6 = (uint8_t)('A' + position / 1068 % 24),
+        .altitude = 20 * (position % 1068),
+        .temperature = (int32_t)(sensors / (40 * 42 * 4)) - 50,
+        .voltage = 3000 + 50 * ((sensors / (42 * 4) + 20) % 40),
+        .speed = 2 * (sensors / 4 % 42),
+        .gps = sensors / 2 % 2,
     };
 }
 
 u4b_reading hand_u4b_read(const uint8_t *callsign, size_t callsign_len, const uint8_t *locator, size_t locator_len,
                           uint32_t power)
 {
-    telemetry t = read_telemetry(callsign, callsign_len, locator, locator_len, power);
+    parts m;
+    const uint32_t *d = m.digits;
+    uint32_t position, sensors;
+    uint8_t first;
 
-    if (t.refusal)
-        return unread(t.refusal, t.place);
-    if (t.b % 2 == 0)
+    take_apart(&m, callsign, callsign_len, locator, locator_len, power);
+    if (m.refusal)
+        return unread(m.refusal, m.place);
+    first = capital_of(callsign[0]);
+    if (!is_first(first))
+        return unread(10, 0);
+    for (uint32_t place = 3; place < CALLSIGN; place++)
+        if (callsign[place] == ' ')
+            return unread(10, place);
+    position = ((d[1] * 26 + d[3]) * 26 + d[4]) * 26 + d[5];
+    sensors = (((d[6] * 18 + d[7]) * 10 + d[8]) * 10 + d[9]) * POWERS + m.index;
+    if (sensors % 2 == 0)
         return unread(11, 0);
-    if (t.a >= POSITIONS)
+    if (position >= POSITIONS)
         return unread(12, 0);
-    if (t.b >= SENSORS)
+    if (sensors >= SENSORS)
         return unread(13, 0);
-    return reading_of(t);
+    return reading_of(first, callsign[2], position, sensors);
 }

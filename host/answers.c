@@ -15,7 +15,6 @@ static const struct {
     {1, 0, FRAME, "a frame has 162 symbols"},
     {1, 0, MESSAGE, "the line isn't a callsign of up to 6 characters, a locator of 4 and a power"},
     {1, 0, REPORT, "the line isn't a report of 7 fields"},
-    {1, 0, EXTENDED_REPORT, "the line isn't channel, slot, type and a whole number for each field of the table"},
     {1, 0, CUT_OFF, "the line is cut off before its newline"},
     {2, 0, ANY_FORM, "the callsign's character isn't 0 to 9, A to Z or a space"},
     {2, 1, ANY_FORM, "the callsign's character isn't 0 to 9 or A to Z"},
@@ -49,11 +48,6 @@ static const struct {
     {16, 0, ANY_FORM, "the live count is above the budget: try a larger one, up to 65536, or a smaller limit"},
     {17, 0, ANY_FORM, "no word is within the limit"},
     {18, 0, ANY_FORM, "two or more words share the fewest disagreements"},
-    {19, 0, ANY_FORM, "the table of fields is bad"},
-    {20, 0, ANY_FORM, "basic telemetry, not extended"},
-    {21, 0, ANY_FORM, "the reserved number isn't 0"},
-    {22, 0, ANY_FORM, "the slot isn't 0 to 4 or the type isn't 0 to 15"},
-    {23, 0, ANY_FORM, "a number is left over above the fields: most often another table's message"},
 };
 
 static const char *reason_of(refusal r, form of)
@@ -102,13 +96,6 @@ static void plain_report(const u4b_reading *r)
 {
     printf("%c%c %c%c %" PRIu32 " %" PRId32 " %" PRIu32 " %" PRIu32 " %" PRIu32, r->first, r->third, r->grid5, r->grid6,
            r->altitude, r->temperature, r->voltage, r->speed, r->gps);
-}
-
-static void plain_extended(const u4b_extended *r, const int64_t *readings, size_t count)
-{
-    printf("%c%c %" PRIu32 " %" PRIu32, r->first, r->third, r->slot, r->type);
-    for (size_t i = 0; i < count; i++)
-        printf(" %" PRId64, readings[i]);
 }
 
 /* What stands before a string, and the string. It needs no escapes: what is printed are characters that the card
@@ -165,23 +152,11 @@ static void json_report(const u4b_reading *r)
            r->altitude, r->temperature, r->voltage, r->speed, r->gps);
 }
 
-static void json_extended(const u4b_extended *r, const int64_t *readings, size_t count)
-{
-    const uint8_t channel[] = {r->first, r->third};
-
-    json_string("{\"channel\":", channel, sizeof channel);
-    printf(",\"slot\":%" PRIu32 ",\"type\":%" PRIu32 ",\"readings\":", r->slot, r->type);
-    for (size_t i = 0; i < count; i++)
-        printf("%c%" PRId64, i ? ',' : '[', readings[i]);
-    fputs("]}", stdout);
-}
-
 const output plain_output = {
     plain_refused,
     plain_message,
     plain_frame,
     plain_report,
-    plain_extended,
     {"word ", "; message ", "; telemetry ", "; disagreements ", "; live ", "; sync wrong ", "; margin ", ""},
 };
 
@@ -190,7 +165,6 @@ const output json_output = {
     json_message,
     json_frame,
     json_report,
-    json_extended,
     {"{\"word\":\"", "\",\"message\":", ",\"telemetry\":", ",\"disagreements\":", ",\"live\":", ",\"sync_wrong\":",
      ",\"margin\":", "}"},
 };

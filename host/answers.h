@@ -17,7 +17,7 @@ typedef struct {
 } refusal;
 
 /* What a line is to be, or that it was cut off: it tells the reasons of refusal 1 apart. */
-typedef enum { ANY_FORM, MESSAGE, FRAME, REPORT, EXTENDED_REPORT, CUT_OFF } form;
+typedef enum { ANY_FORM, MESSAGE, FRAME, REPORT, CUT_OFF } form;
 
 /* A message as the card gives it. Where it refuses there are no characters. */
 typedef struct {
@@ -31,7 +31,6 @@ typedef struct {
     void (*message)(const message *m);
     void (*frame)(const message *m, uint64_t word, const uint8_t *frame);
     void (*report)(const u4b_reading *r);
-    void (*extended)(const u4b_extended *r, const int64_t *readings, size_t count);
     struct {
         const char *word, *message, *telemetry, *disagreements, *live, *sync_wrong, *margin, *end;
     } repair;

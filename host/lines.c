@@ -57,9 +57,9 @@ span take_last_field(span *text)
 }
 
 /* The number with a digit behind it, or the largest of the type. */
-static uint64_t with_digit(uint64_t number, uint64_t digit)
+static uint32_t with_digit(uint32_t number, uint32_t digit)
 {
-    return number > (UINT64_MAX - digit) / 10 ? UINT64_MAX : number * 10 + digit;
+    return number > (UINT32_MAX - digit) / 10 ? UINT32_MAX : number * 10 + digit;
 }
 
 bool is_digit(uint8_t c)
@@ -67,58 +67,15 @@ bool is_digit(uint8_t c)
     return c >= '0' && c <= '9';
 }
 
-static bool read_digits(span text, uint64_t *number)
+bool read_number(span text, uint32_t *number)
 {
     *number = 0;
     for (size_t i = 0; i < text.length; i++) {
         if (!is_digit(text.start[i]))
             return false;
-        *number = with_digit(*number, (uint64_t)(text.start[i] - '0'));
+        *number = with_digit(*number, (uint32_t)(text.start[i] - '0'));
     }
     return text.length > 0;
-}
-
-static uint32_t in_32_bits(uint64_t number)
-{
-    return number > UINT32_MAX ? UINT32_MAX : (uint32_t)number;
-}
-
-bool read_number(span text, uint32_t *number)
-{
-    uint64_t digits;
-    bool is_number = read_digits(text, &digits);
-
-    *number = in_32_bits(digits);
-    return is_number;
-}
-
-/* Whether the text begins with this sign, which is then dropped. */
-static bool take_sign(span *text, uint8_t sign)
-{
-    bool taken = text->length > 0 && *text->start == sign;
-
-    text->start += taken;
-    text->length -= taken;
-    return taken;
-}
-
-bool read_integer(span text, int64_t *number)
-{
-    bool negative = take_sign(&text, '-');
-    uint64_t digits;
-    bool is_number = read_digits(text, &digits);
-
-    if (digits > INT64_MAX)
-        *number = negative ? INT64_MIN : INT64_MAX;
-    else
-        *number = negative ? -(int64_t)digits : (int64_t)digits;
-    return is_number;
-}
-
-/* Behind a plus no minus is a number. */
-bool read_reading(span field, int64_t *reading)
-{
-    return !(take_sign(&field, '+') && take_sign(&field, '-')) && read_integer(field, reading);
 }
 
 uint32_t number_in(span field)
@@ -130,8 +87,7 @@ uint32_t number_in(span field)
 
 uint32_t tenths_in(span field)
 {
-    uint64_t whole;
-    uint32_t tenth = 0;
+    uint32_t whole, tenth = 0;
 
     if (field.length > 2 && field.start[field.length - 2] == '.') {
         span last = {field.start + field.length - 1, 1};
@@ -140,16 +96,18 @@ uint32_t tenths_in(span field)
             return UINT32_MAX;
         field.length -= 2;
     }
-    return read_digits(field, &whole) ? in_32_bits(with_digit(whole, tenth)) : UINT32_MAX;
+    return read_number(field, &whole) ? with_digit(whole, tenth) : UINT32_MAX;
 }
 
 int32_t signed_tenths_in(span field)
 {
-    bool negative = take_sign(&field, '-');
+    bool negative = field.length > 0 && *field.start == '-';
     uint32_t tenths;
 
-    if (!negative)
-        take_sign(&field, '+');
+    if (negative || (field.length > 0 && *field.start == '+')) {
+        field.start++;
+        field.length--;
+    }
     tenths = tenths_in(field);
     if (tenths > INT32_MAX)
         return INT32_MAX;

@@ -7,9 +7,8 @@
 #include <stdint.h>
 #include <stdio.h>
 
-/* The most bytes of a line that are kept: more than any message, frame or report needs. The longest is an extended
- * report with 29 readings of 20 characters, which has 616. */
-#define LINE_KEPT 1024
+/* The most bytes of a line that are kept: more than any message, frame or report needs. */
+#define LINE_KEPT 256
 
 /* A line without its end, or the start of a line that is longer than what is kept. Two bytes more tell the two apart,
  * even when the last of them is a carriage return and is dropped: then `length` is still above LINE_KEPT. `cut_off` is
@@ -41,13 +40,7 @@ bool is_digit(uint8_t c);
 /* Decimal digits and nothing else, up to the largest number of the type. False where the text is anything else. */
 bool read_number(span text, uint32_t *number);
 
-/* The same with a minus before the digits or none, down to the smallest number of the type and up to the largest. */
-bool read_integer(span text, int64_t *number);
-
-/* The same with a plus, too. */
-bool read_reading(span field, int64_t *reading);
-
-/* A number, and numbers with at most one digit after a point, in tenths, the last with a sign. What isn't a number is
+/* The same, and numbers with at most one digit after a point, in tenths, the last with a sign. What isn't a number is
  * the largest number of the type: the card refuses it as it does every number out of its range. */
 uint32_t number_in(span field);
 uint32_t tenths_in(span field);

@@ -18,54 +18,20 @@
 
 #define BIT(option) (1u << (option))
 
-#define LEGAL_TABLE \
-    "A table has 1 to 29 fields. Each step is 1 or more, each count 2 or more, the\n" \
-    "product of the counts at most 608612940. Each field's lowest and highest reading\n" \
-    "are within -2147483648 to 2147483647"
-
-/* Takes what stands behind an option into the call; it is NULL where nothing does. Returns the complaint, or NULL where
- * all is right. */
-typedef const char *taking(const char *value, unsigned option, call *c);
-
-static const char *take_number(const char *value, unsigned option, call *c)
-{
-    bool right = value && read_number((span){(const uint8_t *)value, strlen(value)}, &c->option[option]);
-
-    return right ? NULL : " needs a number";
-}
-
-static const char *take_table(const char *value, unsigned option, call *c)
-{
-    c->option[option] = 1;
-    if (!value || !read_table(value, &c->table))
-        return " needs fields as lowest:step:count, separated by commas";
-    return is_legal(&c->table) ? NULL : " has a table that the card refuses.\n" LEGAL_TABLE;
-}
-
-static const char *take_nothing(const char *value, unsigned option, call *c)
-{
-    (void)value;
-    c->option[option] = 1;
-    return NULL;
-}
-
 static const struct {
     const char *name;
-    taking *take;
+    bool takes_number;
     uint32_t unless_given;
     const char *help;
 } options[OPTIONS] = {
-    [LIMIT] = {"--limit", take_number, USUAL_LIMIT,
+    [LIMIT] = {"--limit", true, USUAL_LIMIT,
                "  --limit N   the most disagreements that a repaired word may have,\n"
                "              0 to 12; 4 unless given\n"},
-    [BUDGET] = {"--budget", take_number, USUAL_BUDGET,
+    [BUDGET] = {"--budget", true, USUAL_BUDGET,
                 "  --budget N  the largest live count that is searched through,\n"
                 "              1 to 65536; 65536 unless given\n"},
-    [EXTENDED] = {"--extended", take_table, 0,
-                  "  --extended FIELDS\n"
-                  "              extended telemetry, with this table of fields\n"},
-    [WRITE] = {"--write", take_nothing, 0, "  --write     a report to its message\n"},
-    [JSON] = {"--json", take_nothing, 0, "  --json      one JSON object a line instead of plain text\n"},
+    [WRITE] = {"--write", false, 0, "  --write     a report to its message\n"},
+    [JSON] = {"--json", false, 0, "  --json      one JSON object a line instead of plain text\n"},
 };
 
 #define MESSAGE_HELP \
@@ -96,9 +62,9 @@ static const struct {
     "\n" \
     "At limit 2 the live count of a clean frame is 131, and that of a frame with one\n" \
     "flipped data bit at most 135, reached exactly where the data bit of symbol 105,\n" \
-    "counted from 0, is the flipped one. So a budget of 131 always gives the word of\n" \
-    "a clean frame back, and one of 135 that of a frame with one flipped data bit,\n" \
-    "too. This is proved for every word.\n" \
+    "counted from 0, is the flipped one. So a budget of 131 always gives the word of a\n" \
+    "clean frame back, and one of 135 that of a frame with one flipped data bit, too.\n" \
+    "This is proved for every word.\n" \
     "\n" \
     "The frames of two words differ in at least 28 data bits. So at limit 4 and\n" \
     "budget 65536, as they are unless given, a word comes back where at most 4 data\n" \
@@ -107,26 +73,9 @@ static const struct {
     "the limit: 24 at limit 4, and 26 at limit 2. This is proved for every word.\n"
 #define REPORT_HELP \
     "A report is channel, sub-square, metres, degrees, millivolts, knots and GPS,\n" \
-    "as Q2 SK 12340 -15 4100 30 1. Its letters are capitals, and tabs may stand\n" \
-    "between its fields. With --write, readings are rounded down to steps of\n" \
-    "20 metres, 1 degree, 50 millivolts and 2 knots.\n"
-#define EXTENDED_HELP \
-    "\n" \
-    "Extended telemetry carries readings that sender and desk agree upon. FIELDS is\n" \
-    "the table of its fields, each as lowest:step:count, separated by commas, as\n" \
-    "0:20:1068,-50:1:90,0:1:2. A field's readings are lowest, lowest + step and so\n" \
-    "on, count of them. Both ends need the same table: nothing in a message says\n" \
-    "which one it was written with, but what the type is agreed to mean.\n" \
-    LEGAL_TABLE ".\n" \
-    "\n" \
-    "A report is then channel, slot (0 to 4), type (0 to 15) and a whole number for\n" \
-    "each field, in the table's order, as Q2 3 1 12340 -15 1. With --write, a reading\n" \
-    "below its field's lowest or above its highest becomes that one, and the others\n" \
-    "are rounded to the nearest step, halves up, below zero too.\n" \
-    "\n" \
-    "A bad table (19) is a wrong call. Refused are basic telemetry (20), a reserved\n" \
-    "number that isn't 0 (21), a slot or type out of its range (22) and a number that\n" \
-    "is left over above the fields (23), most often in another table's message.\n"
+    "as Q2 SK 12340 -15 4100 30 1. Its letters are capitals, and tabs may stand between\n" \
+    "its fields. With --write, readings are rounded down to steps of 20 metres,\n" \
+    "1 degree, 50 millivolts and 2 knots.\n"
 
 /* Of its two helps one stands before the options and one behind them. */
 static const struct {
@@ -140,9 +89,8 @@ static const struct {
     [REPAIR] = {"repair", "[--limit N] [--budget N] [--json]",
                 "a frame, damaged or not, to the one word that is nearest to it", FRAME_HELP REPAIR_HELP, COUNTS_HELP,
                 BIT(LIMIT) | BIT(BUDGET) | BIT(JSON)},
-    [TELEMETRY] = {"telemetry", "[--extended FIELDS] [--write] [--json]",
-                   "a message to the report in it; with --write the other way", MESSAGE_HELP TYPED_HELP REPORT_HELP,
-                   EXTENDED_HELP, BIT(EXTENDED) | BIT(WRITE) | BIT(JSON)},
+    [TELEMETRY] = {"telemetry", "[--write] [--json]", "a message to the report in it; with --write the other way",
+                   MESSAGE_HELP TYPED_HELP REPORT_HELP, "", BIT(WRITE) | BIT(JSON)},
 };
 
 /* The usage of a command, or of the program for COMMANDS. */
@@ -214,11 +162,6 @@ static command find_command(const char *name)
     return which;
 }
 
-static bool takes_value(unsigned option)
-{
-    return options[option].take != take_nothing;
-}
-
 /* Whether the argument is this option. What stands behind an equals sign is its value. */
 static bool is_option(unsigned option, const char *argument, const char **value)
 {
@@ -227,7 +170,7 @@ static bool is_option(unsigned option, const char *argument, const char **value)
     *value = NULL;
     if (strncmp(argument, options[option].name, length) != 0)
         return false;
-    if (argument[length] == '=' && takes_value(option))
+    if (argument[length] == '=' && options[option].takes_number)
         *value = argument + length + 1;
     return *value || argument[length] == '\0';
 }
@@ -242,19 +185,24 @@ static unsigned find_option(command which, const char *argument, const char **va
     return option;
 }
 
+static bool read_value(const char *value, uint32_t *number)
+{
+    return value && read_number((span){(const uint8_t *)value, strlen(value)}, number);
+}
+
 static outcome read_options(char **arguments, call *c)
 {
     while (*arguments) {
-        const char *argument = *arguments++, *value, *complaint;
+        const char *argument = *arguments++, *value;
         unsigned option = find_option(c->command, argument, &value);
 
         if (option == OPTIONS)
             return wrong(c->command, argument, " isn't an option of this command");
-        if (takes_value(option) && !value && *arguments)
+        c->option[option] = 1;
+        if (options[option].takes_number && !value && *arguments)
             value = *arguments++;
-        complaint = options[option].take(value, option, c);
-        if (complaint)
-            return wrong(c->command, options[option].name, complaint);
+        if (options[option].takes_number && !read_value(value, &c->option[option]))
+            return wrong(c->command, options[option].name, " needs a number");
     }
     return RUN;
 }

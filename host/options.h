@@ -4,19 +4,15 @@
 
 #include <stdint.h>
 
-#include "table.h"
-
 typedef enum { ENCODE, READ, REPAIR, TELEMETRY, COMMANDS } command;
 
-enum { LIMIT, BUDGET, EXTENDED, WRITE, JSON, OPTIONS };
+enum { LIMIT, BUDGET, WRITE, JSON, OPTIONS };
 
-/* A command, its name, and the number of each option: of those that take none, 1 where they are given, else 0. The
- * table is there where --extended is given. */
+/* A command, its name, and the number of each option: of those that take none, 1 where they are given, else 0. */
 typedef struct {
     command command;
     const char *name;
     uint32_t option[OPTIONS];
-    table table;
 } call;
 
 /* What is to be done: run the command, or end, after help or version was shown or after a complaint. */

@@ -11,11 +11,8 @@
 #include "options.h"
 #include "wsprcard.h"
 
-#define LARGEST_REFUSAL 23
+#define LARGEST_REFUSAL 18
 #define REPORT_FIELDS 7
-
-/* The fields of an extended report before its readings. */
-#define EXTENDED_FIELDS 3
 
 enum { ALL_ANSWERED, SOME_REFUSED, CALLED_WRONGLY, FAILED };
 
@@ -40,7 +37,7 @@ typedef struct {
     uint8_t field[CALLSIGN];
 } typed_message;
 
-static const refusal none = {0, 0}, wrong_form = {1, 0};
+static const refusal none = {0, 0};
 
 /* The callsign's field of six. In WSPR its third character is always a digit, so that a callsign with its digit in the
  * second place, as K1ABC, stands one place to the right in it. A callsign that is empty or too long stays as it is,
@@ -81,33 +78,14 @@ static uint8_t one_of_two(span field, size_t place)
     return field.length == 2 ? field.start[place] : 0;
 }
 
-/* Whether the line is so many fields, one or more, and nothing else. */
-static bool take_fields(const line *l, span *field, size_t count)
+/* Whether the line is a report's fields and nothing more. */
+static bool take_report(const line *l, span field[REPORT_FIELDS])
 {
     span text = text_of_line(l);
 
-    for (size_t i = count; i > 0; i--)
+    for (size_t i = REPORT_FIELDS; i > 0; i--)
         field[i - 1] = take_last_field(&text);
     return field[0].length > 0 && text.length == 0;
-}
-
-/* Whether each field is a reading. The card takes every number as one: what isn't a number has to be refused here. */
-static bool read_readings(const span *field, int64_t *readings, size_t count)
-{
-    size_t i = 0;
-
-    while (i < count && read_reading(field[i], &readings[i]))
-        i++;
-    return i == count;
-}
-
-/* Prints the card's message, or gives its refusal. */
-static refusal answer_message(const run *r, const message *m)
-{
-    if (m->card.refusal)
-        return (refusal){m->card.refusal, m->card.place};
-    r->out->message(m);
-    return none;
 }
 
 /* What is shown of the message is what the card says of its word, not what was typed. Only packing refuses: what was
@@ -136,7 +114,10 @@ static refusal answer_read(run *r, const line *l)
 
     take_frame(l, frame);
     m.card = wspr_read_message(frame, l->length, m.callsign, CALLSIGN, m.locator, LOCATOR);
-    return answer_message(r, &m);
+    if (m.card.refusal)
+        return (refusal){m.card.refusal, m.card.place};
+    r->out->message(&m);
+    return none;
 }
 
 static refusal answer_repair(run *r, const line *l)
@@ -178,52 +159,23 @@ static refusal answer_report(run *r, const line *l)
     span f[REPORT_FIELDS];
     message m;
 
-    if (!take_fields(l, f, REPORT_FIELDS))
-        return wrong_form;
+    if (!take_report(l, f))
+        return (refusal){1, 0};
     m.card = u4b_write(one_of_two(f[0], 0), one_of_two(f[0], 1), one_of_two(f[1], 0), one_of_two(f[1], 1),
                        number_in(f[2]), signed_tenths_in(f[3]), number_in(f[4]), tenths_in(f[5]), number_in(f[6]),
                        m.callsign, CALLSIGN, m.locator, LOCATOR);
-    return answer_message(r, &m);
-}
-
-static refusal answer_extended(run *r, const line *l)
-{
-    const table *t = &r->call->table;
-    int64_t readings[FIELDS_KEPT];
-    typed_message m;
-    u4b_extended report;
-
-    take_message(l, &m);
-    report = u4b_read_extended(m.callsign.start, m.callsign.length, m.locator.start, m.locator.length, m.power,
-                               t->numbers, FIELD_NUMBERS * t->fields, readings, t->fields);
-    if (report.refusal)
-        return (refusal){report.refusal, report.place};
-    r->out->extended(&report, readings, t->fields);
+    if (m.card.refusal)
+        return (refusal){m.card.refusal, m.card.place};
+    r->out->message(&m);
     return none;
 }
 
-static refusal answer_extended_report(run *r, const line *l)
-{
-    const table *t = &r->call->table;
-    span f[EXTENDED_FIELDS + FIELDS_KEPT];
-    int64_t readings[FIELDS_KEPT];
-    message m;
-
-    if (!take_fields(l, f, EXTENDED_FIELDS + t->fields) || !read_readings(f + EXTENDED_FIELDS, readings, t->fields))
-        return wrong_form;
-    m.card = u4b_write_extended(one_of_two(f[0], 0), one_of_two(f[0], 1), number_in(f[1]), number_in(f[2]), t->numbers,
-                                FIELD_NUMBERS * t->fields, readings, t->fields, m.callsign, CALLSIGN, m.locator,
-                                LOCATOR);
-    return answer_message(r, &m);
-}
-
-/* Those of each command, without --extended and with it, and each without --write and with it. */
-static const job jobs[COMMANDS][2][2] = {
-    [ENCODE] = {{{MESSAGE, answer_encode}}},
-    [READ] = {{{FRAME, answer_read}}},
-    [REPAIR] = {{{FRAME, answer_repair}}},
-    [TELEMETRY] = {{{MESSAGE, answer_telemetry}, {REPORT, answer_report}},
-                   {{MESSAGE, answer_extended}, {EXTENDED_REPORT, answer_extended_report}}},
+/* Those of each command, without --write and with it. */
+static const job jobs[COMMANDS][2] = {
+    [ENCODE] = {{MESSAGE, answer_encode}},
+    [READ] = {{FRAME, answer_read}},
+    [REPAIR] = {{FRAME, answer_repair}},
+    [TELEMETRY] = {{MESSAGE, answer_telemetry}, {REPORT, answer_report}},
 };
 
 /* A number that isn't in the card's table is counted as 0. */
@@ -272,7 +224,7 @@ static int send_output(void)
 static refusal answer_line(run *r, const job *j, const line *l)
 {
     bool cut = l->cut_off && j->of != FRAME;
-    refusal refused = cut ? wrong_form : j->answer(r, l);
+    refusal refused = cut ? (refusal){1, 0} : j->answer(r, l);
 
     if (refused.number)
         r->out->refused(refused, cut ? CUT_OFF : j->of);
@@ -282,7 +234,7 @@ static refusal answer_line(run *r, const job *j, const line *l)
 
 static int answer_lines(const call *c)
 {
-    const job *j = &jobs[c->command][c->option[EXTENDED]][c->option[WRITE]];
+    const job *j = &jobs[c->command][c->option[WRITE]];
     run r = {.call = c, .out = c->option[JSON] ? &json_output : &plain_output};
     line l;
 

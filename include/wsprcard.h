@@ -1,20 +1,19 @@
 /*
  * wsprcard: WSPR type 1 messages, their 50-bit words, frames of 162 symbols and their repair, and U4B
- * telemetry, basic and extended.
+ * basic telemetry.
  *
  * Every call takes any bytes and any numbers, always ends, and either does its job or refuses by the
  * table below. On success `refusal` and `place` are 0. On a refusal every other number of the result
  * is 0, and no buffer is written.
  *
  * A buffer is a pointer and its length: `callsign` and `callsign_len`, `locator` and `locator_len`,
- * `frame` and `frame_len`, and of numbers `fields` and `fields_len`, `readings` and `readings_len`. That
- * many bytes, or numbers, must be there. NULL with length 0 is an empty buffer. Buffers lent to one call
- * must not overlap. Callsign and locator have no terminating zero: none is counted in a length, and none
- * is written.
+ * `frame` and `frame_len`. That many bytes must be there. NULL with length 0 is an empty buffer.
+ * Buffers lent to one call must not overlap. Callsign and locator have no terminating zero: none is
+ * counted in a length, and none is written.
  *
  *   refusal                                                      place
  *   1  a buffer hasn't its exact length (callsign 6, locator 4,  0
- *      frame 162; fields three times as many as readings)
+ *      frame 162)
  *   2  a character is outside its set                            the first such, 0 to 9
  *   3  the power isn't one of the 19                             0
  *   4  the word is 2^50 or more; where a message is read also:   0
@@ -42,11 +41,6 @@
  *      65,536, or a smaller limit may answer
  *   17 no word is within the limit                               0
  *   18 two or more words share the fewest disagreements          0
- *   19 the table of fields is bad                                0
- *   20 the telemetry type isn't 0: basic telemetry, not extended 0
- *   21 the reserved number isn't 0                               0
- *   22 the slot is above 4, or the type above 15                 0
- *   23 a number is left over above the fields                    0
  *
  * Callsign places 0 to 5: 0 is 0-9, A-Z or space; 1 is 0-9 or A-Z; 2 is 0-9; 3 to 5 are A-Z or
  * space. Locator places 6 to 9: 6 and 7 are A-R, 8 and 9 are 0-9. The powers are
@@ -71,21 +65,8 @@
  * radices 36, 26, 26, 26. The number B, of temperature, voltage, speed and GPS, has its digits in
  * places 6 to 9 and in the power's index, its place from 0 in the list above, with radices 18, 18, 10,
  * 10, 19. The highest digit comes first. At place 1 the digits count 0 to 9 and the letters 10 to 35;
- * at the other places letters and digits count from 0. The message that u4b_write or
- * u4b_write_extended gives goes to wspr_write_message, and one that wspr_read_message gives goes to
- * u4b_read or u4b_read_extended: of every message that 1, 2, 3 and 10 pass, exactly one of the two has
- * the right kind, as either u4b_read refuses it 11 or u4b_read_extended refuses it 20 (proved).
- *
- * Extended telemetry has the same digits in the same places. They are those of one number, B plus
- * 615,600 times A, and it holds a code for each field of a table that the caller lends. A field is three
- * numbers: its lowest reading, its step and its count. Its codes are 0 to count - 1, and a code's reading
- * is lowest plus code times step; the highest is that of code count - 1. The table is bad unless it has
- * 1 to 29 fields, each with a step of 1 or more, a count of 2 or more, and lowest and highest within
- * -2,147,483,648 to 2,147,483,647, and the product of the counts is at most 608,612,940. The number
- * starts at 0, and is multiplied by each field's count before its code is added, last field first, and in
- * the same way by 5 for the slot, by 16 for the type, by 4 for a reserved number and by 2 for the
- * telemetry type, both of which are 0. Both ends need the same table: nothing in a message says which
- * one it was written with, but what the type is agreed to mean.
+ * at the other places letters and digits count from 0. The message that u4b_write gives goes to
+ * wspr_write_message, and one that wspr_read_message gives goes to u4b_read.
  */
 #ifndef WSPRCARD_H
 #define WSPRCARD_H
@@ -127,13 +108,6 @@ typedef struct {
     int32_t temperature;
     uint32_t voltage, speed, gps;
 } u4b_reading;
-
-/* What extended telemetry says beside its readings. */
-typedef struct {
-    uint32_t refusal, place;
-    uint8_t first, third;
-    uint32_t slot, type;
-} u4b_extended;
 
 /* The word of a message. Refusals 1, 2, 3, in that order. */
 wspr_word wspr_pack(const uint8_t *callsign, size_t callsign_len, const uint8_t *locator, size_t locator_len,
@@ -227,30 +201,6 @@ wspr_message u4b_write(uint8_t first, uint8_t third, uint8_t grid5, uint8_t grid
  * u4b_write makes the message's capital form again, with temperature and speed times 10. */
 u4b_reading u4b_read(const uint8_t *callsign, size_t callsign_len, const uint8_t *locator, size_t locator_len,
                      uint32_t power);
-
-/* The message of an extended telemetry report: writes its callsign and locator, returns its power. Any number is a
- * reading: it is clamped to its field's lowest and highest, then rounded to the nearest step, from the middle between
- * two up to the higher number, below zero too.
- *
- *   first, third  the channel's characters, as u4b_write takes them
- *   slot          0 to 4
- *   type          0 to 15
- *   fields        three numbers for each reading: lowest, step, count
- *   readings      one for each field
- *
- * Refusals 1 (fields_len isn't three times readings_len, or callsign or locator), 14 (first, third), 19, 22, in that
- * order. Under one table two different lists of codes never share a message. */
-wspr_message u4b_write_extended(uint8_t first, uint8_t third, uint32_t slot, uint32_t type, const int64_t *fields,
-                                size_t fields_len, const int64_t *readings, size_t readings_len, uint8_t *callsign,
-                                size_t callsign_len, uint8_t *locator, size_t locator_len);
-
-/* The extended telemetry of a message: writes its readings, one for each field of the table, returns its channel, slot
- * and type. What reads back is what u4b_write_extended was given, clamped and rounded. Refusals 1 (as in writing), 2, 3,
- * 10, 20, 19, 21, 23, in that order: exactly for the messages whose capital form u4b_write_extended never makes with
- * this table. Of what is read, it makes the message's capital form again. */
-u4b_extended u4b_read_extended(const uint8_t *callsign, size_t callsign_len, const uint8_t *locator, size_t locator_len,
-                               uint32_t power, const int64_t *fields, size_t fields_len, int64_t *readings,
-                               size_t readings_len);
 
 #ifdef __cplusplus
 }

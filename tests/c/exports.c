@@ -1,4 +1,4 @@
-/* The eleven exports, the refusals that each may give, and counts of what they gave in a test. */
+/* The nine exports, the refusals that each may give, and counts of what they gave in a test. */
 #include "exports.h"
 
 #include <inttypes.h>
@@ -20,8 +20,6 @@ static const struct {
     [REPAIR] = {"wspr_repair", {1, 15, 7, 16, 17, TIE}},
     [U4B_WRITE] = {"u4b_write", {1, 14}},
     [U4B_READ] = {"u4b_read", {1, 2, 3, 10, 11, 12, 13}},
-    [U4B_WRITE_EXTENDED] = {"u4b_write_extended", {1, 14, 19, 22}},
-    [U4B_READ_EXTENDED] = {"u4b_read_extended", {1, 2, 3, 10, 20, 19, 21, 23}},
 };
 
 static unsigned long counts[EXPORTS][REFUSALS];

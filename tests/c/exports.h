@@ -1,4 +1,4 @@
-/* The eleven exports, the refusals that each may give, and counts of what they gave in a test. */
+/* The nine exports, the refusals that each may give, and counts of what they gave in a test. */
 #ifndef EXPORTS_H
 #define EXPORTS_H
 
@@ -14,13 +14,11 @@ enum export {
     REPAIR,
     U4B_WRITE,
     U4B_READ,
-    U4B_WRITE_EXTENDED,
-    U4B_READ_EXTENDED,
     EXPORTS
 };
 
 /* Refusals are below it; 0 is success. */
-enum { REFUSALS = 24 };
+enum { REFUSALS = 19 };
 
 const char *export_name(enum export export);
 int may_refuse(enum export export, uint32_t refusal);

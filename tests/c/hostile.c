@@ -1,6 +1,6 @@
-/* Calls the eleven exports with hostile input and holds every answer to what can be told without a second
- * implementation. Each lent buffer is a block of its own of exactly its length, so that valgrind sees a byte too far;
- * the sanitizers see the C code only. */
+/* Calls the nine exports with hostile input and holds every answer to what can be told without a second implementation.
+ * Each lent buffer is a block of its own of exactly its length, so that valgrind sees a byte too far; the sanitizers see
+ * the C code only. */
 #include <inttypes.h>
 #include <stdio.h>
 #include <stdlib.h>
@@ -36,44 +36,28 @@ static void hold(int kept, const char *promise)
     exit(1);
 }
 
-static uint8_t *block(const void *content, size_t len)
+static uint8_t *block(const struct content *c)
 {
-    uint8_t *bytes = malloc(len);
+    uint8_t *bytes = malloc(c->len);
 
-    if (!bytes && len > 0) {
+    if (!bytes && c->len > 0) {
         puts("hostile: out of memory");
         exit(1);
     }
-    if (len > 0)
-        memcpy(bytes, content, len);
+    if (c->len > 0)
+        memcpy(bytes, c->bytes, c->len);
     return bytes;
 }
 
 /* An empty buffer is NULL or an empty block. */
-static struct lent lend_block(struct generator *g, const void *content, size_t len)
-{
-    struct lent l = {NULL, NULL, len};
-
-    if (len > 0 || draw_once_in(g, 2))
-        l.bytes = block(content, len);
-    l.before = block(content, len);
-    return l;
-}
-
 static struct lent lend(struct generator *g, const struct content *c)
 {
-    return lend_block(g, c->bytes, c->len);
-}
+    struct lent l = {NULL, NULL, c->len};
 
-static struct lent lend_numbers(struct generator *g, const struct numbers *n)
-{
-    return lend_block(g, n->numbers, n->len * sizeof *n->numbers);
-}
-
-/* A block is aligned for every type. */
-static int64_t *numbers_in(const struct lent *l)
-{
-    return (int64_t *)(void *)l->bytes;
+    if (c->len > 0 || draw_once_in(g, 2))
+        l.bytes = block(c);
+    l.before = block(c);
+    return l;
 }
 
 static int is_unchanged(const struct lent *l)
@@ -640,14 +624,29 @@ static void hold_reading(const struct message_input *m, u4b_reading t)
     hold(t.voltage >= 3000 && t.voltage <= 4950 && t.voltage % 50 == 0, "the voltage is 3,000 to 4,950 in steps of 50");
     hold(t.speed <= 82 && t.speed % 2 == 0, "the speed is 0 to 82 in steps of 2");
     hold(back.refusal == 0 && back.power == m->power, "what is read is written as the same message");
-    hold(is_capital_form(callsign, m->callsign.bytes, CALLSIGN_LEN), "it is written as the callsign in capitals");
-    hold(is_capital_form(locator, m->locator.bytes, LOCATOR_LEN), "it is written as the locator in capitals");
+    hold(is_capital_form(callsign, m->callsign.bytes, CALLSIGN_LEN), "what is read is written as the callsign in capitals");
+    hold(is_capital_form(locator, m->locator.bytes, LOCATOR_LEN), "what is read is written as the locator in capitals");
+}
+
+/* The first character that telemetry never has: it must be 0, 1 or Q, small or capital, and 3 to 5 are no spaces.
+ * CALLSIGN_LEN if all are telemetry's. */
+static uint32_t first_not_telemetry(const uint8_t *callsign)
+{
+    uint32_t place = 3;
+
+    if (callsign[0] != '0' && callsign[0] != '1' && capital_of(callsign[0]) != 'Q')
+        return 0;
+    while (place < CALLSIGN_LEN && callsign[place] != ' ')
+        place++;
+    return place;
 }
 
 static void hold_telemetry_refusal(const struct message_input *m, uint32_t refusal, uint32_t place)
 {
-    struct refusal expected = telemetry_refusal(m);
+    struct refusal expected = message_refusal(m);
 
+    if (expected.number == 0 && first_not_telemetry(m->callsign.bytes) < CALLSIGN_LEN)
+        expected = (struct refusal){10, first_not_telemetry(m->callsign.bytes)};
     if (expected.number)
         hold_refused(refusal, place, expected);
     else
@@ -690,145 +689,6 @@ static void try_u4b_read(struct generator *g)
     give_back(&locator);
 }
 
-/* A reading and what it is read back as: one of the field's numbers, and the nearest, of two as near the higher. */
-static void hold_nearest(const int64_t *field, int64_t reading, int64_t back)
-{
-    int64_t lowest = field[0], step = field[1], highest = lowest + step * (field[2] - 1);
-    int64_t clamped = reading < lowest ? lowest : reading > highest ? highest : reading;
-
-    hold(back >= lowest && back <= highest && (back - lowest) % step == 0, "what is read is a number of the field");
-    hold(2 * (back - clamped) <= step && 2 * (clamped - back) < step, "it is the nearest to the clamped reading");
-}
-
-/* The message of a report is read as what was written, with each reading clamped and rounded. */
-static void hold_extended_in(const struct extended_input *e, const struct lent *callsign, const struct lent *locator,
-                             uint32_t power)
-{
-    const struct numbers *fields = &e->table.fields, *readings = &e->table.readings;
-    int64_t back[MOST_NUMBERS];
-    u4b_extended x = u4b_read_extended(callsign->bytes, callsign->len, locator->bytes, locator->len, power,
-                                       fields->numbers, fields->len, back, readings->len);
-
-    hold(is_power(power), "the power is one of the 19");
-    hold(x.refusal == 0, "the message of a report is extended telemetry");
-    hold(x.first == e->first && x.third == e->third, "the channel is read back");
-    hold(x.slot == e->slot && x.type == e->type, "slot and type are read back");
-    for (size_t i = 0; i < readings->len; i++)
-        hold_nearest(fields->numbers + 3 * i, readings->numbers[i], back[i]);
-}
-
-static void try_u4b_write_extended(struct generator *g)
-{
-    struct extended_input e;
-    struct content c, l;
-    struct lent fields, readings, callsign, locator;
-    wspr_message m;
-
-    draw_extended(g, &e);
-    draw_buffer(g, &c, CALLSIGN_LEN);
-    draw_buffer(g, &l, LOCATOR_LEN);
-    fields = lend_numbers(g, &e.table.fields);
-    readings = lend_numbers(g, &e.table.readings);
-    callsign = lend(g, &c);
-    locator = lend(g, &l);
-    m = u4b_write_extended(e.first, e.third, e.slot, e.type, numbers_in(&fields), e.table.fields.len,
-                           numbers_in(&readings), e.table.readings.len, callsign.bytes, callsign.len, locator.bytes,
-                           locator.len);
-    answered(m.refusal, m.place);
-    hold_unchanged(&fields, &readings);
-    hold_refused(m.refusal, m.place, fit(&callsign, &locator) ? extended_refusal(&e) : wrong_length);
-    if (m.refusal) {
-        hold_unchanged(&callsign, &locator);
-        hold(m.power == 0, "a refusal's power is 0");
-    } else {
-        hold(has_capitals_only(&callsign) && has_capitals_only(&locator), in_capitals);
-        hold_extended_in(&e, &callsign, &locator, m.power);
-    }
-    give_back(&fields);
-    give_back(&readings);
-    give_back(&callsign);
-    give_back(&locator);
-}
-
-/* What was read is written as the same message again, in capitals. */
-static void hold_extended_reading(const struct message_input *m, const struct table_input *t, u4b_extended x,
-                                  const int64_t *readings)
-{
-    uint8_t callsign[CALLSIGN_LEN], locator[LOCATOR_LEN];
-    wspr_message back = u4b_write_extended(x.first, x.third, x.slot, x.type, t->fields.numbers, t->fields.len, readings,
-                                           t->readings.len, callsign, CALLSIGN_LEN, locator, LOCATOR_LEN);
-
-    for (size_t i = 0; i < t->readings.len; i++)
-        hold_nearest(t->fields.numbers + 3 * i, readings[i], readings[i]);
-    hold(back.refusal == 0 && back.power == m->power, "what is read is written as the same message");
-    hold(is_capital_form(callsign, m->callsign.bytes, CALLSIGN_LEN), "it is written as the callsign in capitals");
-    hold(is_capital_form(locator, m->locator.bytes, LOCATOR_LEN), "it is written as the locator in capitals");
-}
-
-static int is_same_extended(u4b_extended one, u4b_extended other)
-{
-    return one.refusal == other.refusal && one.place == other.place && one.first == other.first &&
-           one.third == other.third && one.slot == other.slot && one.type == other.type;
-}
-
-/* The readings of the capital form are the same, too, and stay as they were where it is refused. */
-static void hold_extended_as_capitals(struct generator *g, const struct message_input *m, const struct table_input *t,
-                                      u4b_extended x, const struct lent *readings)
-{
-    struct lent callsign, locator, own = lend_numbers(g, &t->readings);
-    u4b_extended same;
-
-    lend_capitals(g, m, &callsign, &locator);
-    same = u4b_read_extended(callsign.bytes, callsign.len, locator.bytes, locator.len, m->power, t->fields.numbers,
-                             t->fields.len, numbers_in(&own), t->readings.len);
-    hold(is_same_extended(same, x), as_capitals);
-    hold(own.len == 0 || memcmp(own.bytes, readings->bytes, own.len) == 0, as_capitals);
-    give_back(&callsign);
-    give_back(&locator);
-    give_back(&own);
-}
-
-/* Of what 1, 2, 3 and 10 let pass, either basic reading refuses 11 or extended reading 20. */
-static void hold_one_kind(const struct message_input *m, uint32_t refusal)
-{
-    u4b_reading t = u4b_read(m->callsign.bytes, CALLSIGN_LEN, m->locator.bytes, LOCATOR_LEN, m->power);
-
-    hold((refusal == 20) != (t.refusal == 11), "a message is basic telemetry or extended");
-}
-
-static void try_u4b_read_extended(struct generator *g)
-{
-    struct message_input m;
-    struct table_input t;
-    struct lent callsign, locator, fields, readings;
-    u4b_extended x;
-
-    draw_extended_message(g, &m, &t);
-    callsign = lend(g, &m.callsign);
-    locator = lend(g, &m.locator);
-    fields = lend_numbers(g, &t.fields);
-    readings = lend_numbers(g, &t.readings);
-    x = u4b_read_extended(callsign.bytes, callsign.len, locator.bytes, locator.len, m.power, numbers_in(&fields),
-                          t.fields.len, numbers_in(&readings), t.readings.len);
-    answered(x.refusal, x.place);
-    hold_unchanged(&callsign, &locator);
-    hold_unchanged(&fields, &fields);
-    hold_refused(x.refusal, x.place, extended_message_refusal(&m, &t));
-    if (x.refusal) {
-        hold_unchanged(&readings, &readings);
-        hold((x.first | x.third | x.slot | x.type) == 0, "a refusal's numbers are 0");
-    } else {
-        hold_extended_reading(&m, &t, x, numbers_in(&readings));
-    }
-    if (x.refusal != 1 && telemetry_refusal(&m).number == 0)
-        hold_one_kind(&m, x.refusal);
-    hold_extended_as_capitals(g, &m, &t, x, &readings);
-    give_back(&callsign);
-    give_back(&locator);
-    give_back(&fields);
-    give_back(&readings);
-}
-
 static void (*const tries[EXPORTS])(struct generator *g) = {
     [PACK] = try_pack,
     [UNPACK] = try_unpack,
@@ -839,8 +699,6 @@ static void (*const tries[EXPORTS])(struct generator *g) = {
     [REPAIR] = try_repair,
     [U4B_WRITE] = try_u4b_write,
     [U4B_READ] = try_u4b_read,
-    [U4B_WRITE_EXTENDED] = try_u4b_write_extended,
-    [U4B_READ_EXTENDED] = try_u4b_read_extended,
 };
 
 static void try_all(struct generator *g)

@@ -39,25 +39,6 @@ struct report_input {
     uint32_t voltage, speed, gps;
 };
 
-/* What a lent buffer of numbers is to hold. */
-enum { MOST_NUMBERS = LONGEST / sizeof(int64_t) };
-
-struct numbers {
-    size_t len;
-    int64_t numbers[MOST_NUMBERS];
-};
-
-/* A table of extended telemetry, three numbers a field, and its readings. */
-struct table_input {
-    struct numbers fields, readings;
-};
-
-struct extended_input {
-    uint8_t first, third;
-    uint32_t slot, type;
-    struct table_input table;
-};
-
 /* A buffer to be written: random bytes of the exact length, or of a wrong one. */
 void draw_buffer(struct generator *g, struct content *c, size_t exact);
 
@@ -65,10 +46,6 @@ void draw_message(struct generator *g, struct message_input *m);
 void draw_telemetry_message(struct generator *g, struct message_input *m);
 void draw_frame(struct generator *g, struct frame_input *f);
 void draw_report(struct generator *g, struct report_input *r);
-void draw_extended(struct generator *g, struct extended_input *e);
-
-/* A table, and a message whose number mostly has room in it. */
-void draw_extended_message(struct generator *g, struct message_input *m, struct table_input *t);
 uint64_t draw_word(struct generator *g);
 uint32_t draw_limit(struct generator *g);
 uint32_t draw_budget(struct generator *g);
@@ -87,10 +64,5 @@ void make_capital_form(struct message_input *m);
 struct refusal message_refusal(const struct message_input *m);
 struct refusal word_refusal(uint64_t word);
 struct refusal report_refusal(const struct report_input *r);
-struct refusal extended_refusal(const struct extended_input *e);
-
-/* What is to be refused where a message is read as telemetry of either kind; and where it is read as extended. */
-struct refusal telemetry_refusal(const struct message_input *m);
-struct refusal extended_message_refusal(const struct message_input *m, const struct table_input *t);
 
 #endif

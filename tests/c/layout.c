@@ -1,7 +1,6 @@
 /* What the calls write that return a struct of more than 16 bytes. On x86-64 the caller passes where it is to be
  * written; here the calls are declared that way, so that every byte is seen: a struct of the library that is larger
- * than the header's writes past the last byte that is shown. Padding, of which nothing is promised, isn't shown: only
- * u4b_extended has any, between its third character and its slot. */
+ * than the header's writes past the last byte that is shown. Neither struct has padding. */
 #include <stddef.h>
 #include <stdint.h>
 #include <stdio.h>
@@ -12,9 +11,6 @@ enum { FRAME = 162, ROOM = 96 };
 void *wspr_repair(void *result, const uint8_t *frame, size_t frame_len, uint32_t limit, uint32_t budget);
 void *u4b_read(void *result, const uint8_t *callsign, size_t callsign_len, const uint8_t *locator, size_t locator_len,
                uint32_t power);
-void *u4b_read_extended(void *result, const uint8_t *callsign, size_t callsign_len, const uint8_t *locator,
-                        size_t locator_len, uint32_t power, const int64_t *fields, size_t fields_len,
-                        int64_t *readings, size_t readings_len);
 uint64_t wspr_write_word(uint64_t word, uint8_t *frame, size_t frame_len);
 
 typedef void *call(void *result, int refused);
@@ -30,21 +26,6 @@ static void *repair(void *result, int refused)
 static void *read_telemetry(void *result, int refused)
 {
     return u4b_read(result, (const uint8_t *)"QQ2XFT", 6, (const uint8_t *)"GP99", 4, refused ? 1 : 60);
-}
-
-/* What the padding held stays, as if the call hadn't written it. */
-static void *read_extended(void *result, int refused)
-{
-    static const int64_t fields[] = {0, 1, 2};
-    uint8_t *start = (uint8_t *)result + 10, padding[2];
-    int64_t reading;
-    void *returned;
-
-    memcpy(padding, start, sizeof padding);
-    returned = u4b_read_extended(result, (const uint8_t *)"Q02AAA", 6, (const uint8_t *)"AA33", 4, refused ? 1 : 43,
-                                 fields, 3, &reading, 1);
-    memcpy(start, padding, sizeof padding);
-    return returned;
 }
 
 /* Before the call one result is all zeros and one all ones: a byte that was written differs in one of them. */
@@ -75,6 +56,5 @@ int main(void)
     for (int refused = 0; refused < 2; refused++) {
         show("wspr_repair", repair, refused);
         show("u4b_read", read_telemetry, refused);
-        show("u4b_read_extended", read_extended, refused);
     }
 }

@@ -21,9 +21,6 @@ static const char *const characters[] = {
     "ABCDEFGHIJKLMNOPQR", "ABCDEFGHIJKLMNOPQR", "0123456789", "0123456789",
 };
 
-/* The largest product of the counts of a table of extended telemetry. */
-#define MOST_CODES INT64_C(608612940)
-
 /* The capital of a small letter; any other byte as it is. */
 static inline uint8_t capital_of(uint8_t byte)
 {

@@ -67,19 +67,6 @@ static struct guarded lend_to_write(struct input *in, enum guard guard, size_t e
     return lend(in, guard, &c);
 }
 
-static struct guarded lend_numbers(struct input *in, enum guard guard, const struct numbers *n)
-{
-    uint8_t how = take(in);
-
-    return lend_guarded(guard, (const uint8_t *)n->numbers, n->len * sizeof *n->numbers, how & 1, how & 2);
-}
-
-/* The buffers that lend_numbers lends are aligned. */
-static int64_t *numbers_at(uint8_t *bytes)
-{
-    return (int64_t *)(void *)bytes;
-}
-
 static void try_pack(struct input *in)
 {
     struct message m;
@@ -207,46 +194,6 @@ static void try_u4b_read(struct input *in)
     equal("GPS", card.gps, reference.gps);
 }
 
-static void try_u4b_write_extended(struct input *in)
-{
-    struct extended e;
-    struct guarded f, r, c, l;
-
-    take_extended(in, &e);
-    f = lend_numbers(in, FIELDS, &e.table.fields);
-    r = lend_numbers(in, READINGS, &e.table.readings);
-    c = lend_to_write(in, CALLSIGN, CALLSIGN_LEN);
-    l = lend_to_write(in, LOCATOR, LOCATOR_LEN);
-    equal_messages(u4b_write_extended(e.first, e.third, e.slot, e.type, numbers_at(f.card), e.table.fields.len,
-                                      numbers_at(r.card), e.table.readings.len, c.card, c.len, l.card, l.len),
-                   reference_u4b_write_extended(e.first, e.third, e.slot, e.type, numbers_at(f.reference),
-                                                e.table.fields.len, numbers_at(r.reference), e.table.readings.len,
-                                                c.reference, c.len, l.reference, l.len));
-}
-
-static void try_u4b_read_extended(struct input *in)
-{
-    struct message m;
-    struct table t;
-    struct guarded c, l, f, r;
-    u4b_extended card, reference;
-
-    take_extended_message(in, &m, &t);
-    c = lend(in, CALLSIGN, &m.callsign);
-    l = lend(in, LOCATOR, &m.locator);
-    f = lend_numbers(in, FIELDS, &t.fields);
-    r = lend_numbers(in, READINGS, &t.readings);
-    card = u4b_read_extended(c.card, c.len, l.card, l.len, m.power, numbers_at(f.card), t.fields.len,
-                             numbers_at(r.card), t.readings.len);
-    reference = reference_u4b_read_extended(c.reference, c.len, l.reference, l.len, m.power, numbers_at(f.reference),
-                                            t.fields.len, numbers_at(r.reference), t.readings.len);
-    equal_answers(card.refusal, card.place, reference.refusal, reference.place);
-    equal("channel's first character", card.first, reference.first);
-    equal("channel's third character", card.third, reference.third);
-    equal("slot", card.slot, reference.slot);
-    equal("type", card.type, reference.type);
-}
-
 static void (*const tries[EXPORTS])(struct input *in) = {
     [PACK] = try_pack,
     [UNPACK] = try_unpack,
@@ -257,8 +204,6 @@ static void (*const tries[EXPORTS])(struct input *in) = {
     [REPAIR] = try_repair,
     [U4B_WRITE] = try_u4b_write,
     [U4B_READ] = try_u4b_read,
-    [U4B_WRITE_EXTENDED] = try_u4b_write_extended,
-    [U4B_READ_EXTENDED] = try_u4b_read_extended,
 };
 
 int LLVMFuzzerTestOneInput(const uint8_t *bytes, size_t count)

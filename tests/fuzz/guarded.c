@@ -12,7 +12,7 @@ enum { PAGE = 4096, FILLER = 0xa5 };
 /* What the card's page holds, what it is to hold, and where in it the buffer stands. */
 static struct {
     uint8_t *page;
-    _Alignas(int64_t) uint8_t expected[PAGE];
+    uint8_t expected[PAGE];
     size_t start, len;
 } guards[GUARDS];
 

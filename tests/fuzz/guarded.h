@@ -5,7 +5,7 @@
 #include <stddef.h>
 #include <stdint.h>
 
-enum guard { CALLSIGN, LOCATOR, FRAME, FIELDS, READINGS, GUARDS };
+enum guard { CALLSIGN, LOCATOR, FRAME, GUARDS };
 
 /* A buffer that is lent twice with the same content: to the card, guarded, and to the reference. */
 struct guarded {
@@ -13,7 +13,7 @@ struct guarded {
     size_t len;
 };
 
-/* A length of 0 may be lent as NULL. A length in whole numbers of 64 bits leaves them aligned. */
+/* A length of 0 may be lent as NULL. */
 struct guarded lend_guarded(enum guard guard, const uint8_t *content, size_t len, int at_start, int null);
 
 /* Whether the card left the same bytes as the reference in all buffers, and none beside them. */

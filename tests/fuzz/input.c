@@ -162,12 +162,14 @@ void take_message(struct input *in, struct message *m)
     take_case(in, m);
 }
 
-/* A channel and its numbers A and B; B's last digit is the power's index. */
-static void put_numbers(struct message *m, uint8_t first, uint32_t a, uint32_t b)
+/* Numbers A and B anywhere in a message's room; B's last digit is the power's index. */
+static void take_numbers(struct input *in, struct message *m)
 {
+    uint32_t a = take(in) & 1 ? 615160 + take(in) % 16u : (uint32_t)take_number(in, 3) % 632736;
+    uint32_t b = take(in) & 1 ? 604792 + take(in) % 16u : (uint32_t)take_number(in, 3) % 615600;
     uint8_t *callsign = m->callsign.bytes, *locator = m->locator.bytes;
 
-    callsign[0] = first;
+    callsign[0] = (uint8_t) "01Q"[take(in) % 3];
     callsign[1] = (uint8_t)characters[1][a / 17576];
     callsign[3] = (uint8_t)('A' + a / 676 % 26);
     callsign[4] = (uint8_t)('A' + a / 26 % 26);
@@ -177,15 +179,6 @@ static void put_numbers(struct message *m, uint8_t first, uint32_t a, uint32_t b
     locator[2] = (uint8_t)('0' + b / 190 % 10);
     locator[3] = (uint8_t)('0' + b / 19 % 10);
     m->power = powers[b % 19];
-}
-
-/* Numbers A and B anywhere in a message's room. */
-static void take_numbers(struct input *in, struct message *m)
-{
-    uint32_t a = take(in) & 1 ? 615160 + take(in) % 16u : (uint32_t)take_number(in, 3) % 632736;
-    uint32_t b = take(in) & 1 ? 604792 + take(in) % 16u : (uint32_t)take_number(in, 3) % 615600;
-
-    put_numbers(m, (uint8_t) "01Q"[take(in) % 3], a, b);
 }
 
 void take_telemetry_message(struct input *in, struct message *m)
@@ -278,123 +271,4 @@ void take_report(struct input *in, struct report *r)
     r->voltage = take_in_range(in, 3000, 2000);
     r->speed = take_in_range(in, 0, 840);
     r->gps = take_in_range(in, 0, 2);
-}
-
-/* Both sides of what a table's numbers may be, and numbers whose products wrap. */
-static const int64_t edges[] = {
-    INT64_MIN, INT64_C(-2147483649), INT32_MIN, -1, 0, 1, 2, 65536, MOST_CODES, MOST_CODES + 1, INT32_MAX,
-    INT64_C(1) << 31, UINT32_MAX, INT64_C(1) << 32, INT64_C(1) << 62, INT64_MAX,
-};
-
-/* The number as it is; once in a while another one, one beside it, or it with a bit turned over. */
-static int64_t take_number_instead(struct input *in, int64_t number, uint8_t sooner)
-{
-    uint8_t kind = take(in);
-
-    if (kind < sooner)
-        return number;
-    switch (kind % 4) {
-    case 0:
-        return (int64_t)take_number(in, 8);
-    case 1:
-        return edges[take(in) % COUNT(edges)];
-    case 2:
-        return (int64_t)((uint64_t)number + take(in) % 3 - 1);
-    default:
-        return (int64_t)((uint64_t)number ^ UINT64_C(1) << take(in) % 64);
-    }
-}
-
-/* A number from `first` to `last`: the last, or any, and small ones as often as large ones. */
-static uint64_t take_up_to(struct input *in, uint64_t first, uint64_t last)
-{
-    uint8_t kind = take(in);
-    uint64_t any = take_number(in, 4) % (last - first + 1);
-
-    return kind < 32 ? last : first + (any >> kind % 32);
-}
-
-/* A field of this count, within signed 32 bits; once in a while one of its numbers is another. */
-static void take_table_field(struct input *in, int64_t *field, uint64_t count)
-{
-    uint64_t step = take_up_to(in, 1, UINT32_MAX / (count - 1));
-    uint64_t left = UINT32_MAX - step * (count - 1);
-
-    field[0] = take_number_instead(in, INT32_MIN + (int64_t)take_up_to(in, 0, left), 253);
-    field[1] = take_number_instead(in, (int64_t)step, 253);
-    field[2] = take_number_instead(in, (int64_t)count, 253);
-}
-
-/* Of a right field one of its numbers, one beside it or in the middle to the next; or any number. */
-static int64_t take_reading(struct input *in, const int64_t *field, uint64_t count)
-{
-    uint64_t code = take_up_to(in, 0, count), half = (uint64_t)field[1] / 2 * (take(in) & 1);
-    uint64_t own = (uint64_t)field[0] + code * (uint64_t)field[1] + half;
-
-    return take_number_instead(in, (int64_t)own, 96);
-}
-
-/* Mostly 1 to 8 fields, else up to 29, and seldom none or up to 47. */
-static size_t take_field_count(struct input *in)
-{
-    uint8_t kind = take(in);
-
-    return kind < 160 ? 1 + kind % 8u : kind < 248 ? 1 + kind % 29u : take(in) % 48u;
-}
-
-/* Mostly the length as it is; else a small one, one near it, or one with its lowest eight bits. */
-static size_t take_numbers_length(struct input *in, size_t exact)
-{
-    uint8_t kind = take(in);
-
-    if (kind < 248)
-        return exact;
-    return kind < 250 ? take(in) % 4u : kind < 252 ? exact + 256 : exact + kind % 4u;
-}
-
-/* Returns the product of the counts, if none of them is another. */
-static uint64_t take_table(struct input *in, struct table *t)
-{
-    size_t count = take_field_count(in);
-    uint64_t room = MOST_CODES, product = 1;
-
-    memset(t, 0, sizeof *t);
-    for (size_t i = 0; i < count; i++) {
-        int64_t *field = t->fields.numbers + 3 * i;
-        size_t others = count - 1 - i;
-        uint64_t codes = others < 28 && room >> others > 2 ? take_up_to(in, 2, room >> others) : 2;
-
-        take_table_field(in, field, codes);
-        t->readings.numbers[i] = take_reading(in, field, codes);
-        product *= codes;
-        room /= codes;
-    }
-    t->fields.len = take_numbers_length(in, 3 * count);
-    t->readings.len = take_numbers_length(in, count);
-    return product;
-}
-
-void take_extended(struct input *in, struct extended *e)
-{
-    e->first = (uint8_t)take_instead(in, (uint8_t) "01Q"[take(in) % 3]);
-    e->third = (uint8_t)take_in_range(in, '0', 10);
-    e->slot = take_in_range(in, 0, 5);
-    e->type = take_in_range(in, 0, 16);
-    take_table(in, &e->table);
-}
-
-/* The codes are at most the product, sometimes any; reserved number and telemetry type mostly 0. */
-void take_extended_message(struct input *in, struct message *m, struct table *t)
-{
-    uint8_t shape = take(in);
-    uint64_t product = take_table(in, t), codes, number;
-
-    take_telemetry_message(in, m);
-    if (shape < 32)
-        return;
-    codes = take_up_to(in, 0, shape < 64 || product >= MOST_CODES ? MOST_CODES - 1 : product);
-    number = (codes * 80 + take(in) % 80u) * 8 + (shape % 4 == 0 ? take(in) % 8u : 0);
-    put_numbers(m, (uint8_t) "01Q"[take(in) % 3], (uint32_t)(number / 615600), (uint32_t)(number % 615600));
-    spoil_message(in, m, shape % 8 == 1);
-    take_case(in, m);
 }

@@ -35,25 +35,6 @@ struct report {
     uint32_t voltage, speed, gps;
 };
 
-/* Enough for 29 fields, for more than that, and for a length with the lowest eight bits of a right one. */
-enum { MOST_NUMBERS = 400 };
-
-struct numbers {
-    size_t len;
-    int64_t numbers[MOST_NUMBERS];
-};
-
-/* A table of extended telemetry, three numbers a field, and its readings. */
-struct table {
-    struct numbers fields, readings;
-};
-
-struct extended {
-    uint8_t first, third;
-    uint32_t slot, type;
-    struct table table;
-};
-
 struct input input_of(const uint8_t *bytes, size_t count);
 
 uint8_t take(struct input *in);
@@ -69,9 +50,5 @@ void take_message(struct input *in, struct message *m);
 void take_telemetry_message(struct input *in, struct message *m);
 void take_frame(struct input *in, struct content *c);
 void take_report(struct input *in, struct report *r);
-void take_extended(struct input *in, struct extended *e);
-
-/* A table, and a message whose number mostly has room in it. */
-void take_extended_message(struct input *in, struct message *m, struct table *t);
 
 #endif

@@ -3,10 +3,9 @@
 #[path = "../src/reference/mod.rs"]
 pub mod reference;
 
-use reference::extended::Extended;
 use reference::message::Message;
 use reference::telemetry::Telemetry;
-use reference::{extended, frame, message, repair, telemetry, Refusal};
+use reference::{frame, message, repair, telemetry, Refusal};
 use std::slice;
 
 #[repr(C)]
@@ -60,19 +59,8 @@ pub struct ReadingAnswer {
     gps: u32,
 }
 
-#[repr(C)]
-#[derive(Default)]
-pub struct ExtendedAnswer {
-    refusal: u32,
-    place: u32,
-    first: u8,
-    third: u8,
-    slot: u32,
-    kind: u32,
-}
-
-/// The bytes or numbers of a buffer. NULL with length 0 is an empty one.
-unsafe fn lent<'a, T>(pointer: *const T, len: usize) -> &'a [T] {
+/// The bytes of a buffer. NULL with length 0 is an empty one.
+unsafe fn lent<'a>(pointer: *const u8, len: usize) -> &'a [u8] {
     if len == 0 {
         &[]
     } else {
@@ -80,9 +68,9 @@ unsafe fn lent<'a, T>(pointer: *const T, len: usize) -> &'a [T] {
     }
 }
 
-/// Writes a buffer of just so many bytes or numbers.
-unsafe fn fill<T: Copy>(pointer: *mut T, content: &[T]) {
-    slice::from_raw_parts_mut(pointer, content.len()).copy_from_slice(content);
+/// Writes a buffer of just so many bytes.
+unsafe fn fill(pointer: *mut u8, bytes: &[u8]) {
+    slice::from_raw_parts_mut(pointer, bytes.len()).copy_from_slice(bytes);
 }
 
 fn word_answer(answer: Result<u64, Refusal>) -> WordAnswer {
@@ -274,54 +262,6 @@ pub unsafe extern "C" fn reference_u4b_read(
         Ok(report) => reading_answer(report),
         Err(Refusal { number, place }) => {
             ReadingAnswer { refusal: number, place, ..Default::default() }
-        }
-    }
-}
-
-/// # Safety
-#[no_mangle]
-pub unsafe extern "C" fn reference_u4b_write_extended(
-    first: u8,
-    third: u8,
-    slot: u32,
-    kind: u32,
-    fields: *const i64,
-    fields_len: usize,
-    readings: *const i64,
-    readings_len: usize,
-    callsign: *mut u8,
-    callsign_len: usize,
-    locator: *mut u8,
-    locator_len: usize,
-) -> MessageAnswer {
-    let given = Extended { first, third, slot, kind };
-    let (table, readings) = (lent(fields, fields_len), lent(readings, readings_len));
-    let answer = extended::write(&given, table, readings, callsign_len, locator_len);
-    message_answer(answer, callsign, locator)
-}
-
-/// # Safety
-#[no_mangle]
-pub unsafe extern "C" fn reference_u4b_read_extended(
-    callsign: *const u8,
-    callsign_len: usize,
-    locator: *const u8,
-    locator_len: usize,
-    power: u32,
-    fields: *const i64,
-    fields_len: usize,
-    readings: *mut i64,
-    readings_len: usize,
-) -> ExtendedAnswer {
-    let (callsign, locator) = (lent(callsign, callsign_len), lent(locator, locator_len));
-    let table = lent(fields, fields_len);
-    match extended::read(callsign, locator, power, table, readings_len) {
-        Ok((Extended { first, third, slot, kind }, numbers)) => {
-            fill(readings, &numbers);
-            ExtendedAnswer { refusal: 0, place: 0, first, third, slot, kind }
-        }
-        Err(Refusal { number, place }) => {
-            ExtendedAnswer { refusal: number, place, ..Default::default() }
         }
     }
 }

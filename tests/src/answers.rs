@@ -1,6 +1,5 @@
 // What the C interface is to return for the answers of the independent implementation.
 use crate::card;
-use crate::reference::extended::Extended;
 use crate::reference::message::Message;
 use crate::reference::repair::Repaired;
 use crate::reference::telemetry::Telemetry;
@@ -48,16 +47,6 @@ pub fn reading_answer(answer: Result<Telemetry, Refusal>) -> card::Reading {
     }
 }
 
-/// The readings that are written are compared apart.
-pub fn extended_answer(answer: Result<Extended, Refusal>) -> card::Extended {
-    match answer {
-        Ok(Extended { first, third, slot, kind }) => {
-            card::Extended { refusal: 0, place: 0, first, third, slot, kind }
-        }
-        Err(refusal) => refused_extended(refusal.number, refusal.place),
-    }
-}
-
 /// For the calls that return nothing else; what they write is compared apart.
 pub fn written_answer<Frame>(answer: Result<Frame, Refusal>) -> card::Written {
     match answer {
@@ -92,8 +81,4 @@ pub fn refused_reading(refusal: u32, place: u32) -> card::Reading {
         speed: 0,
         gps: 0,
     }
-}
-
-pub fn refused_extended(refusal: u32, place: u32) -> card::Extended {
-    card::Extended { refusal, place, first: 0, third: 0, slot: 0, kind: 0 }
 }

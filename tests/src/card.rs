@@ -1,6 +1,5 @@
 // The C interface of the library under test, declared by hand, with safe functions over it.
 use crate::lent::Lent;
-use crate::reference::extended;
 use crate::reference::telemetry::Telemetry;
 
 #[repr(C)]
@@ -52,18 +51,6 @@ pub struct Reading {
     pub voltage: u32,
     pub speed: u32,
     pub gps: u32,
-}
-
-/// `kind` is the header's `type`.
-#[repr(C)]
-#[derive(Clone, Copy, Debug, PartialEq, Eq)]
-pub struct Extended {
-    pub refusal: u32,
-    pub place: u32,
-    pub first: u8,
-    pub third: u8,
-    pub slot: u32,
-    pub kind: u32,
 }
 
 extern "C" {
@@ -131,33 +118,6 @@ extern "C" {
         locator_len: usize,
         power: u32,
     ) -> Reading;
-
-    fn u4b_write_extended(
-        first: u8,
-        third: u8,
-        slot: u32,
-        kind: u32,
-        fields: *const i64,
-        fields_len: usize,
-        readings: *const i64,
-        readings_len: usize,
-        callsign: *mut u8,
-        callsign_len: usize,
-        locator: *mut u8,
-        locator_len: usize,
-    ) -> Message;
-
-    fn u4b_read_extended(
-        callsign: *const u8,
-        callsign_len: usize,
-        locator: *const u8,
-        locator_len: usize,
-        power: u32,
-        fields: *const i64,
-        fields_len: usize,
-        readings: *mut i64,
-        readings_len: usize,
-    ) -> Extended;
 }
 
 pub fn pack(callsign: &[u8], locator: &[u8], power: u32) -> Word {
@@ -252,53 +212,6 @@ pub fn read_telemetry(callsign: &[u8], locator: &[u8], power: u32) -> Reading {
     unsafe { u4b_read(callsign.as_ptr(), callsign.len(), locator.as_ptr(), locator.len(), power) }
 }
 
-pub fn write_extended(
-    given: &extended::Extended,
-    table: &[i64],
-    readings: &[i64],
-    callsign: &mut [u8],
-    locator: &mut [u8],
-) -> Message {
-    unsafe {
-        u4b_write_extended(
-            given.first,
-            given.third,
-            given.slot,
-            given.kind,
-            table.as_ptr(),
-            table.len(),
-            readings.as_ptr(),
-            readings.len(),
-            callsign.as_mut_ptr(),
-            callsign.len(),
-            locator.as_mut_ptr(),
-            locator.len(),
-        )
-    }
-}
-
-pub fn read_extended(
-    callsign: &[u8],
-    locator: &[u8],
-    power: u32,
-    table: &[i64],
-    readings: &mut [i64],
-) -> Extended {
-    unsafe {
-        u4b_read_extended(
-            callsign.as_ptr(),
-            callsign.len(),
-            locator.as_ptr(),
-            locator.len(),
-            power,
-            table.as_ptr(),
-            table.len(),
-            readings.as_mut_ptr(),
-            readings.len(),
-        )
-    }
-}
-
 /// `pack` from buffers that show whether anything was written.
 pub fn pack_lent(callsign: &mut Lent, locator: &mut Lent, power: u32) -> Word {
     unsafe {
@@ -380,53 +293,4 @@ pub fn write_telemetry_lent(
 /// `read_telemetry` from buffers that show whether anything was written.
 pub fn read_telemetry_lent(callsign: &mut Lent, locator: &mut Lent, power: u32) -> Reading {
     unsafe { u4b_read(callsign.pointer(), callsign.len(), locator.pointer(), locator.len(), power) }
-}
-
-/// `write_extended` from and into buffers that show what was written.
-pub fn write_extended_lent(
-    given: &extended::Extended,
-    table: &mut Lent<i64>,
-    readings: &mut Lent<i64>,
-    callsign: &mut Lent,
-    locator: &mut Lent,
-) -> Message {
-    unsafe {
-        u4b_write_extended(
-            given.first,
-            given.third,
-            given.slot,
-            given.kind,
-            table.pointer(),
-            table.len(),
-            readings.pointer(),
-            readings.len(),
-            callsign.pointer(),
-            callsign.len(),
-            locator.pointer(),
-            locator.len(),
-        )
-    }
-}
-
-/// `read_extended` from and into buffers that show what was written.
-pub fn read_extended_lent(
-    callsign: &mut Lent,
-    locator: &mut Lent,
-    power: u32,
-    table: &mut Lent<i64>,
-    readings: &mut Lent<i64>,
-) -> Extended {
-    unsafe {
-        u4b_read_extended(
-            callsign.pointer(),
-            callsign.len(),
-            locator.pointer(),
-            locator.len(),
-            power,
-            table.pointer(),
-            table.len(),
-            readings.pointer(),
-            readings.len(),
-        )
-    }
 }

@@ -1,12 +1,11 @@
-// A strict reader of the JSON that the host program writes: objects, lists, strings and whole
-// numbers, without spaces between their parts. What no answer needs is an error: other kinds of
-// values, empty lists, escapes, a key twice, more than one value.
+// A strict reader of the JSON that the host program writes: objects, strings and whole numbers,
+// without spaces between their parts. What no answer needs is an error: other kinds of values,
+// escapes, a key twice, more than one value.
 
 #[derive(Clone, Debug, PartialEq, Eq)]
 pub enum Value {
     Number(i64),
     Text(String),
-    List(Vec<Value>),
     Object(Vec<(String, Value)>),
 }
 
@@ -34,7 +33,6 @@ pub fn parse(text: &[u8]) -> Result<Value, usize> {
 fn value(left: &mut &[u8]) -> Option<Value> {
     match left.first()? {
         b'{' => object(left),
-        b'[' => list(left).map(Value::List),
         b'"' => string(left).map(Value::Text),
         _ => number(left).map(Value::Number),
     }
@@ -58,16 +56,6 @@ fn object(left: &mut &[u8]) -> Option<Value> {
             return Some(Value::Object(members));
         }
     }
-}
-
-fn list(left: &mut &[u8]) -> Option<Vec<Value>> {
-    take(left, b'[')?;
-    let mut values = vec![value(left)?];
-    while take(left, b',').is_some() {
-        values.push(value(left)?);
-    }
-    take(left, b']')?;
-    Some(values)
 }
 
 fn string(left: &mut &[u8]) -> Option<String> {

@@ -15,16 +15,13 @@ use wsprcard_tests::child::{assert_output, end_of, in_repository, Ended, Program
 use wsprcard_tests::counts::Counts;
 use wsprcard_tests::facts::{margin, CLEAN};
 use wsprcard_tests::inputs::{
-    bad_word, flipped, noise, random_fields, random_header, random_legal_word, random_message,
-    random_places, random_reading, random_telemetry, recase, resized, spoil_sync, spoil_telemetry,
+    bad_word, flipped, noise, random_legal_word, random_message, random_places, random_telemetry,
+    recase, resized, spoil_sync, spoil_telemetry,
 };
 use wsprcard_tests::json::{self, Value};
 use wsprcard_tests::lines::{
     damaged, damaged_message_line, frame_line, joined, message_line, report_line, spaced,
     telemetry_line, typed_message, typed_report,
-};
-use wsprcard_tests::reference::extended::{
-    self, codes_of, fields_of, Extended, Field, MOST_FIELDS,
 };
 use wsprcard_tests::reference::frame::{frame_of, FRAME_LEN};
 use wsprcard_tests::reference::host::{self as reference, Answer, Call, Command, Refused, Told};
@@ -35,31 +32,14 @@ use wsprcard_tests::reference::Refusal;
 use wsprcard_tests::rng::Rng;
 use wsprcard_tests::vectors;
 
-/// The manual page's table of extended telemetry.
-const TABLE: &str = "0:20:1068,-50:1:90,0:1:2";
-
 /// The calls of every command, with their defaults.
-const COMMANDS: [&[&str]; 7] = [
-    &["encode"],
-    &["read"],
-    &["repair"],
-    &["telemetry"],
-    &["telemetry", "--write"],
-    &["telemetry", "--extended", TABLE],
-    &["telemetry", "--extended", TABLE, "--write"],
-];
-
-/// Those whose lines are no frames.
-const UNFRAMED: [&[&str]; 5] = [COMMANDS[0], COMMANDS[3], COMMANDS[4], COMMANDS[5], COMMANDS[6]];
+const COMMANDS: [&[&str]; 5] =
+    [&["encode"], &["read"], &["repair"], &["telemetry"], &["telemetry", "--write"]];
 
 /// The manual page's message, telemetry message and report.
 const MESSAGE: &[u8] = b"K1ABC FN20 37";
 const TELEMETRY: &[u8] = b"QQ2XFT GP99 60";
 const REPORT: &[u8] = b"Q2 SK 12340 -15 4100 30 1";
-
-/// Its extended report with that table, and the message of it.
-const EXTENDED_REPORT: &[u8] = b"Q2 3 1 12340 -15 1";
-const EXTENDED: &[u8] = b"Q02AFJ HO45 57";
 
 /// The same message and telemetry message in small letters.
 const SMALL_MESSAGE: &[u8] = b"k1abc fn20 37";
@@ -87,8 +67,6 @@ fn right_line(arguments: &[&str]) -> Vec<u8> {
         Command::Read | Command::Repair { .. } => frame_line(&frame_of(word_of_line(TELEMETRY))),
         Command::Telemetry => TELEMETRY.to_vec(),
         Command::WriteTelemetry => REPORT.to_vec(),
-        Command::Extended => EXTENDED.to_vec(),
-        Command::WriteExtended => EXTENDED_REPORT.to_vec(),
     }
 }
 
@@ -99,7 +77,7 @@ fn takes_frames(arguments: &[&str]) -> bool {
 
 /// Whether the command's lines are messages.
 fn takes_messages(arguments: &[&str]) -> bool {
-    matches!(call(arguments).command, Command::Encode | Command::Telemetry | Command::Extended)
+    matches!(call(arguments).command, Command::Encode | Command::Telemetry)
 }
 
 /// The word of a message that is shown in 14 characters.
@@ -158,8 +136,6 @@ fn count(counts: &mut Counts, call: &Call, answer: &Value) {
         Command::Repair { .. } => "repair",
         Command::Telemetry => "telemetry",
         Command::WriteTelemetry => "telemetry --write",
-        Command::Extended => "telemetry --extended",
-        Command::WriteExtended => "telemetry --extended --write",
     };
     counts.count(name, refusal_in(answer));
     for (key, name) in [("message", "repair: message"), ("telemetry", "repair: telemetry")] {
@@ -178,25 +154,19 @@ fn refusal_in(answer: &Value) -> u32 {
 }
 
 fn value_of(answer: &Result<Answer, Refused>) -> Value {
-    match answer {
-        Err(refused) => refusal_value(*refused),
-        Ok(Answer::Message(message)) => object(message_members(message)),
-        Ok(Answer::Report(report)) => report_value(report),
-        Ok(Answer::Extended(report, readings)) => object(vec![
-            ("channel", text(&[report.first, report.third])),
-            ("slot", number(report.slot)),
-            ("type", number(report.kind)),
-            ("readings", Value::List(readings.iter().copied().map(number).collect())),
-        ]),
+    match *answer {
+        Err(refused) => refusal_value(refused),
+        Ok(Answer::Message(message)) => object(message_members(&message)),
+        Ok(Answer::Report(report)) => report_value(&report),
         Ok(Answer::Encoded(message, word, frame)) => {
-            let mut members = message_members(message);
+            let mut members = message_members(&message);
             members.push(("word", text(format!("{word:013x}").as_bytes())));
-            members.push(("frame", text(&frame_line(frame))));
+            members.push(("frame", text(&frame_line(&frame))));
             object(members)
         }
         Ok(Answer::Repaired(repaired, told)) => {
             let mut members = vec![("word", text(format!("{:013x}", repaired.word).as_bytes()))];
-            members.extend(told_members(*told));
+            members.extend(told_members(told));
             members.push(("disagreements", number(repaired.disagreements)));
             members.push(("live", number(repaired.live)));
             members.push(("sync_wrong", number(repaired.sync_wrong)));
@@ -261,11 +231,9 @@ fn number(number: impl Into<i64>) -> Value {
 /// The JSON reader would be of no use if it took anything.
 #[test]
 fn the_json_reader_is_strict() {
-    let nested = br#"{"a":{"b":-1,"c":""},"d":"x y","e":[1,-2]}"#;
+    let nested = br#"{"a":{"b":-1,"c":""},"d":"x y"}"#;
     let inner = object(vec![("b", number(-1)), ("c", text(b""))]);
-    let list = Value::List(vec![number(1), number(-2)]);
-    let outer = vec![("a", inner), ("d", text(b"x y")), ("e", list)];
-    assert_eq!(json::parse(nested), Ok(object(outer)));
+    assert_eq!(json::parse(nested), Ok(object(vec![("a", inner), ("d", text(b"x y"))])));
     for len in 0..nested.len() {
         assert!(json::parse(&nested[..len]).is_err(), "{}", nested[..len].escape_ascii());
     }
@@ -284,12 +252,7 @@ fn the_json_reader_is_strict() {
         r#"{"a"}"#,
         r#"{"a":"\n"}"#,
         r#"{"a":null}"#,
-        r#"{"a":[]}"#,
-        r#"{"a":[1,]}"#,
-        r#"{"a":[,1]}"#,
-        r#"{"a":[1, 2]}"#,
-        r#"{"a":[1}"#,
-        r#"{"a":1]}"#,
+        r#"{"a":[1]}"#,
         r#"{"a":1}{"a":1}"#,
         "{\"a\":\"\n\"}",
         r#"{"a":'1'}"#,
@@ -334,8 +297,6 @@ fn the_examples_of_the_manual_page_hold() {
         (COMMANDS[4], "Q2 SK 12340 -15 4100 30 1", "QQ2XFT GP99 60"),
         (COMMANDS[3], "QQ2XFT GP99 60", "Q2 SK 12340 -15 4100 30 1"),
         (COMMANDS[4], "Q2 SK 12340 -14.7 4149 31.9 1", "QQ2XFT GP99 60"),
-        (COMMANDS[6], "Q2 3 1 12340 -15 1", "Q02AFJ HO45 57"),
-        (COMMANDS[5], "Q02AFJ HO45 57", "Q2 3 1 12340 -15 1"),
         (
             &["telemetry", "--json"],
             "QQ2XFT GP99 60",
@@ -360,11 +321,10 @@ fn the_objects_of_the_manual_page_are_answers() {
     let frame = frame_of(word_of_line(b" K1ABC FN20 37"));
     let mut sync_wrong = frame;
     sync_wrong[5] ^= 1;
-    let answered: [(&[&str], Vec<u8>); 6] = [
+    let answered: [(&[&str], Vec<u8>); 5] = [
         (&["read", "--json"], frame_line(&frame)),
         (&["encode", "--json"], MESSAGE.to_vec()),
         (&["telemetry", "--json"], TELEMETRY.to_vec()),
-        (&["telemetry", "--extended", TABLE, "--json"], EXTENDED.to_vec()),
         (&["repair", "--json"], frame_line(&flipped(frame, &[0, 1]))),
         (&["read", "--json"], frame_line(&sync_wrong)),
     ];
@@ -442,13 +402,12 @@ fn the_reasons_are_those_of_the_manual_page() {
     let table = section.split(".nf\n").nth(1).and_then(|table| table.split(".fi").next()).unwrap();
     let (wrong_forms, rows): (Vec<_>, Vec<_>) =
         table.lines().partition(|row| row.starts_with("1 ") || row.starts_with("  "));
-    let kinds = [COMMANDS[1], COMMANDS[0], COMMANDS[4], COMMANDS[6]];
-    let [frame, message, report, extended] = kinds.map(|arguments| {
+    let [frame, message, report] = [COMMANDS[1], COMMANDS[0], COMMANDS[4]].map(|arguments| {
         reference::reason(call(arguments).command, &Refusal { number: 1, place: 0 })
     });
-    let forms = [frame, message, report, extended, reference::CUT_OFF];
+    let forms = [frame, message, report, reference::CUT_OFF];
     assert_eq!(wrong_forms.iter().map(|row| &row[7..]).collect::<Vec<_>>(), forms);
-    assert_eq!(rows.len(), 37);
+    assert_eq!(rows.len(), 32);
     assert!(!table.contains([';', '"', '\\']), "{table}");
     for row in rows {
         let number = row[..2].trim().parse().unwrap();
@@ -463,8 +422,7 @@ fn the_reasons_are_those_of_the_manual_page() {
 }
 
 // Refused lines and their refusals, worked out by hand. They are all but 18, which no frame gets
-// at a limit of 12 or less, as two words would have to be within 24 data bits of each other; and
-// 19, as a bad table is a wrong call.
+// at a limit of 12 or less: two words would have to be within 24 data bits of each other.
 
 const FORM: &str =
     "1 0: the line isn't a callsign of up to 6 characters, a locator of 4 and a power";
@@ -536,102 +494,12 @@ const REFUSED_REPORTS: &[(&str, &str)] = &[
     ("Q2 SK 0 0 3000 0 2", "14 8: GPS isn't 0 or 1"),
 ];
 
-/// With the manual page's table. The number of its message is 85,835,272. Those of extended
-/// telemetry are multiples of 8, and odd ones are basic. With this table the smallest of which
-/// something is left over is 1068 * 90 * 2 * 640.
-const REFUSED_EXTENDED: &[(&str, &str)] = &[
-    ("Q02AFJ HO45", FORM),
-    ("Q02AFJX HO45 57", FORM),
-    ("Q02AFJ HO455 57", FORM),
-    ("", FORM),
-    ("!02AFJ HO45 57", "2 0: the callsign's character isn't 0 to 9, A to Z or a space"),
-    ("Q0!AFJ HO45 57", "2 2: the callsign's character isn't 0 to 9"),
-    ("Q02AFJ HO4! 58", "2 9: the locator's character isn't 0 to 9"),
-    ("Q02AFJ HO45 58", "3 0: the power isn't one of the 19"),
-    ("Q02AFJ HO45 x", "3 0: the power isn't one of the 19"),
-    ("K1ABC FN20 37", "10 0: the first character isn't 0, 1 or Q"),
-    ("202AFJ HO45 57", "10 0: the first character isn't 0, 1 or Q"),
-    ("Q02 FJ HO45 57", "10 3: a space stands where telemetry has a letter"),
-    ("Q02A J HO45 57", "10 4: a space stands where telemetry has a letter"),
-    ("q02af ho45 57", "10 5: a space stands where telemetry has a letter"),
-    ("QQ2XFT GP99 60", "20 0: basic telemetry, not extended"),
-    ("qq2xft gp99 60", "20 0: basic telemetry, not extended"),
-    ("Q02AFJ HO45 60", "20 0: basic telemetry, not extended"),
-    ("0Z0ZZZ RR99 60", "20 0: basic telemetry, not extended"),
-    ("000AAA AA00 03", "20 0: basic telemetry, not extended"),
-    ("Q02AFJ HO45 50", "21 0: the reserved number isn't 0"),
-    ("000AAA AA00 07", "21 0: the reserved number isn't 0"),
-    ("000AAA AA00 13", "21 0: the reserved number isn't 0"),
-    ("000AAA AA00 20", "21 0: the reserved number isn't 0"),
-    ("QQ2XFT GP99 57", "21 0: the reserved number isn't 0"),
-    ("0Z0ZZZ RR99 57", "21 0: the reserved number isn't 0"),
-    ("000AHR PI52 40", LEFT_OVER),
-    ("0Z0ZZZ RR99 37", LEFT_OVER),
-];
-
-const LEFT_OVER: &str =
-    "23 0: a number is left over above the fields: most often another table's message";
-
-const EXTENDED_FORM: &str =
-    "1 0: the line isn't channel, slot, type and a whole number for each field of the table";
-
-const WRONG_SLOT: &str = "22 0: the slot isn't 0 to 4 or the type isn't 0 to 15";
-
-/// With the same table. What isn't a number is never a reading; as a slot or a type it is out of
-/// range.
-const REFUSED_EXTENDED_REPORTS: &[(&str, &str)] = &[
-    ("", EXTENDED_FORM),
-    ("Q2", EXTENDED_FORM),
-    ("Q2 3 1", EXTENDED_FORM),
-    ("Q2 3 1 12340", EXTENDED_FORM),
-    ("Q2 3 1 12340 -15", EXTENDED_FORM),
-    ("Q2 3 1 12340 -15 1 0", EXTENDED_FORM),
-    ("Q2 3 12340 -15 1", EXTENDED_FORM),
-    ("Q 2 3 1 12340 -15 1", EXTENDED_FORM),
-    ("Q2 SK 12340 -15 4100 30 1", EXTENDED_FORM),
-    ("Q2 3 1 x -15 1", EXTENDED_FORM),
-    ("Q2 3 1 12340 -15 on", EXTENDED_FORM),
-    ("Q2 3 1 12340 - 1", EXTENDED_FORM),
-    ("Q2 3 1 12340 + 1", EXTENDED_FORM),
-    ("Q2 3 1 12340 --15 1", EXTENDED_FORM),
-    ("Q2 3 1 12340 +-15 1", EXTENDED_FORM),
-    ("Q2 3 1 12340 -+15 1", EXTENDED_FORM),
-    ("Q2 3 1 12340 ++15 1", EXTENDED_FORM),
-    ("Q2 3 1 12340 -15.0 1", EXTENDED_FORM),
-    ("Q2 3 1 12340. -15 1", EXTENDED_FORM),
-    ("Q2 3 1 12340 -15 1-", EXTENDED_FORM),
-    ("Q2 3 1 12340m -15 1", EXTENDED_FORM),
-    ("Q2 3 1 0x10 -15 1", EXTENDED_FORM),
-    ("Q2 3 1 12,340 -15 1", EXTENDED_FORM),
-    ("Q2 3 1 99999999999999999999x -15 1", EXTENDED_FORM),
-    ("22 9 99 1 2 x", EXTENDED_FORM),
-    ("22 3 1 12340 -15 1", "14 0: the channel's first character isn't 0, 1 or Q"),
-    ("q2 3 1 12340 -15 1", "14 0: the channel's first character isn't 0, 1 or Q"),
-    ("Q 3 1 12340 -15 1", "14 0: the channel's first character isn't 0, 1 or Q"),
-    ("Q22 3 1 12340 -15 1", "14 0: the channel's first character isn't 0, 1 or Q"),
-    ("2Q 5 16 12340 -15 1", "14 0: the channel's first character isn't 0, 1 or Q"),
-    ("QQ 5 16 12340 -15 1", "14 1: the channel's third character isn't 0 to 9"),
-    ("Q2 5 1 12340 -15 1", WRONG_SLOT),
-    ("Q2 3 16 12340 -15 1", WRONG_SLOT),
-    ("Q2 15 4 12340 -15 1", WRONG_SLOT),
-    ("Q2 -1 1 12340 -15 1", WRONG_SLOT),
-    ("Q2 +3 1 12340 -15 1", WRONG_SLOT),
-    ("Q2 3 -0 12340 -15 1", WRONG_SLOT),
-    ("Q2 x 1 12340 -15 1", WRONG_SLOT),
-    ("Q2 3 x 12340 -15 1", WRONG_SLOT),
-    ("Q2 3.0 1 12340 -15 1", WRONG_SLOT),
-    ("Q2 4294967299 1 12340 -15 1", WRONG_SLOT),
-    ("Q2 3 18446744073709551617 12340 -15 1", WRONG_SLOT),
-];
-
 #[test]
 fn every_reason_is_told() {
     for (arguments, refused) in [
         (COMMANDS[0], REFUSED_MESSAGES),
         (COMMANDS[3], REFUSED_TELEMETRY),
         (COMMANDS[4], REFUSED_REPORTS),
-        (COMMANDS[5], REFUSED_EXTENDED),
-        (COMMANDS[6], REFUSED_EXTENDED_REPORTS),
     ] {
         for (line, refused) in refused {
             assert_answer(arguments, line.as_bytes(), &format!("refused {refused}"));
@@ -741,12 +609,6 @@ const SEEN_AT_ENDS: &[Seen] = &[
     ("telemetry --write", 0, 50),
     ("telemetry --write", 1, 50),
     ("telemetry --write", 14, 5),
-    ("telemetry --extended", 0, 50),
-    ("telemetry --extended", 1, 50),
-    ("telemetry --extended", 3, 5),
-    ("telemetry --extended --write", 0, 50),
-    ("telemetry --extended --write", 1, 50),
-    ("telemetry --extended --write", 14, 1),
 ];
 
 /// What a message or a report is answered by where its newline is missing.
@@ -786,31 +648,21 @@ fn lines_end_where_the_manual_page_says() {
     counts.finish(SEEN_AT_ENDS);
 }
 
-/// A line that the command answers, as people type it. None is for frames.
-fn typed_line(rng: &mut Rng, arguments: &[&str]) -> Vec<u8> {
-    let call = call(arguments);
-    let report = random_telemetry(rng);
-    let message = match call.command {
-        Command::WriteTelemetry => return typed_report(rng, &report),
-        Command::WriteExtended => return typed_extended(rng, &call.table),
-        Command::Extended => extended_message(rng, arguments),
-        Command::Encode => random_message(rng),
-        _ => telemetry::write(&report, 6, 4).unwrap(),
-    };
-    typed_message(rng, &message)
-}
-
-/// A line that the command answers, in the forms in which people type it, with its end. The last
-/// field of a report has a zero in front, so that it may be cut within the field.
+/// A line that the command answers, in the forms in which people type it, with its end.
 fn ended_line(rng: &mut Rng, arguments: &[&str]) -> Vec<u8> {
-    let mut line = match arguments {
-        ["telemetry"] => telemetry_line(rng),
-        ["encode"] if rng.coin() => telemetry_line(rng),
-        _ => typed_line(rng, arguments),
+    let mut line = match call(arguments).command {
+        Command::WriteTelemetry => {
+            let report = random_telemetry(rng);
+            let mut line = typed_report(rng, &report);
+            line.insert(line.trim_ascii_end().len() - 1, b'0');
+            line
+        }
+        Command::Encode if rng.coin() => {
+            let message = random_message(rng);
+            typed_message(rng, &message)
+        }
+        _ => telemetry_line(rng),
     };
-    if !takes_messages(arguments) {
-        line.insert(line.trim_ascii_end().len() - 1, b'0');
-    }
     line.extend_from_slice(if rng.coin() { b"\n" } else { b"\r\n" });
     line
 }
@@ -820,7 +672,7 @@ fn ended_line(rng: &mut Rng, arguments: &[&str]) -> Vec<u8> {
 #[test]
 fn a_message_or_report_that_is_cut_off_is_never_answered() {
     let mut rng = Rng::new(14);
-    for arguments in UNFRAMED {
+    for arguments in [COMMANDS[0], COMMANDS[3], COMMANDS[4]] {
         let mut would_mislead = 0;
         for _ in 0..80 {
             let line = ended_line(&mut rng, arguments);
@@ -844,9 +696,9 @@ fn a_message_or_report_that_is_cut_off_is_never_answered() {
 #[test]
 fn a_line_that_is_cut_off_is_refused_whatever_it_holds() {
     let in_json = r#"{"refusal":1,"place":0,"reason":"the line is cut off before its newline"}"#;
-    for arguments in UNFRAMED {
+    for arguments in [COMMANDS[0], COMMANDS[3], COMMANDS[4]] {
         let right = right_line(arguments);
-        let long = [&right, &b" ".repeat(1_100)[..]].concat();
+        let long = [&right, &b" ".repeat(300)[..]].concat();
         for line in
             [&right[..], &long, b"0K0AAU AM36 3", b" ", b"\t", b"\r", b"x", b"\0", b"k!abc FN20 37"]
         {
@@ -881,8 +733,8 @@ fn a_frame_that_is_cut_off_is_refused_for_its_length() {
 #[test]
 fn lines_of_all_lengths_are_answered() {
     let lengths = [
-        0, 1, 13, 14, 15, 161, 162, 163, 255, 256, 257, 269, 418, 674, 1_023, 1_024, 1_025, 1_026,
-        1_027, 1_038, 1_186, 4_096, 65_549, 65_698, 100_000,
+        0, 1, 13, 14, 15, 161, 162, 163, 255, 256, 257, 269, 418, 674, 1_000, 4_096, 65_549,
+        65_698, 100_000,
     ];
     for arguments in COMMANDS {
         let right = right_line(arguments);
@@ -967,18 +819,6 @@ const SEEN_OF_BYTES: &[Seen] = &[
     ("telemetry --write", 0, 50),
     ("telemetry --write", 1, 10),
     ("telemetry --write", 14, 1_000),
-    ("telemetry --extended", 0, 50),
-    ("telemetry --extended", 1, 10),
-    ("telemetry --extended", 2, 1_000),
-    ("telemetry --extended", 3, 100),
-    ("telemetry --extended", 10, 10),
-    ("telemetry --extended", 20, 10),
-    ("telemetry --extended", 21, 10),
-    ("telemetry --extended", 23, 10),
-    ("telemetry --extended --write", 0, 50),
-    ("telemetry --extended --write", 1, 1_000),
-    ("telemetry --extended --write", 14, 500),
-    ("telemetry --extended --write", 22, 500),
 ];
 
 #[test]
@@ -993,10 +833,6 @@ fn every_byte_at_every_place_is_answered() {
             ["telemetry"] => vec![TELEMETRY, SMALL_TELEMETRY, b"qq2xft\tgp99\t60"],
             ["telemetry", "--write"] => {
                 vec![REPORT, b"02 AX 0 +0.9 3000 0.0 0", b"\tQ2\tSK 12340 \t-15 4100\t 30\t1\t"]
-            }
-            ["telemetry", "--extended", TABLE] => vec![EXTENDED, b"q02afj\tho45\t57"],
-            ["telemetry", "--extended", TABLE, "--write"] => {
-                vec![EXTENDED_REPORT, b"\tQ2\t3 01 \t+12340 -15\t 1\t"]
             }
             _ => vec![&frame],
         };
@@ -1168,12 +1004,6 @@ fn small_letters_and_tabs_between_fields_are_taken() {
         assert_answer(&["telemetry", "--write"], line.as_bytes(), "QQ2XFT GP99 60");
         assert_answer(&["telemetry", "--write", "--json"], line.as_bytes(), in_json);
     }
-    for line in ["q02afj ho45 57", "q02AFJ HO45 57", "Q02aFj Ho45 57", "\tq02afj\t \tho45\t57 \t"] {
-        assert_answer(COMMANDS[5], line.as_bytes(), "Q2 3 1 12340 -15 1");
-    }
-    for line in ["Q2\t3\t1\t12340\t-15\t1", "\t Q2 \t3\t 1 12340\t\t-15 1 \t"] {
-        assert_answer(COMMANDS[6], line.as_bytes(), "Q02AFJ HO45 57");
-    }
 }
 
 /// Tabs that aren't between fields, worked out by hand. The callsign is all before the locator, and
@@ -1196,10 +1026,6 @@ fn tabs_that_are_not_between_fields_are_refused() {
         (COMMANDS[4], "Q2 SK 123\t40 -15 4100 30 1", REPORT_FORM),
         (COMMANDS[4], "Q2\tSK\t12340\t-15\t4100\t30", REPORT_FORM),
         (COMMANDS[4], "\t", REPORT_FORM),
-        (COMMANDS[5], "Q\t2AFJ HO45 57", "2 1: the callsign's character isn't 0 to 9 or A to Z"),
-        (COMMANDS[6], "Q2 3 1 12\t340 -15 1", EXTENDED_FORM),
-        (COMMANDS[6], "Q\t2 3 1 12340 -15 1", EXTENDED_FORM),
-        (COMMANDS[6], "\t", EXTENDED_FORM),
     ] {
         assert_answer(arguments, line.as_bytes(), &format!("refused {refused}"));
     }
@@ -1209,12 +1035,10 @@ fn tabs_that_are_not_between_fields_are_refused() {
 #[test]
 fn other_blanks_are_no_separators() {
     for blank in ["\u{b}", "\u{c}", "\u{a0}", "\0"] {
-        for arguments in [COMMANDS[0], COMMANDS[3], COMMANDS[5]] {
+        for arguments in [COMMANDS[0], COMMANDS[3]] {
             let line = format!("KA1ABC{blank}FN20 37");
             assert_answer(arguments, line.as_bytes(), &format!("refused {FORM}"));
         }
-        let line = format!("Q2 3 1 12340 -15{blank}1");
-        assert_answer(COMMANDS[6], line.as_bytes(), &format!("refused {EXTENDED_FORM}"));
         let line = format!("Q2{blank}SK 12340 -15 4100 30 1");
         assert_answer(COMMANDS[4], line.as_bytes(), &format!("refused {REPORT_FORM}"));
     }
@@ -1252,7 +1076,7 @@ fn assert_answered_as(arguments: &[&str], input: &[u8], other: &[u8]) {
 #[test]
 fn lines_in_any_case_are_answered_as_in_capitals() {
     let mut rng = Rng::new(15);
-    for arguments in [COMMANDS[0], COMMANDS[3], COMMANDS[5]] {
+    for arguments in [COMMANDS[0], COMMANDS[3]] {
         let mut lines: Vec<_> = (0..6_000).map(|_| any_line(&mut rng, arguments)).collect();
         lines.iter_mut().for_each(|line| recase(&mut rng, line));
         let input = joined(lines);
@@ -1265,8 +1089,19 @@ fn lines_in_any_case_are_answered_as_in_capitals() {
 #[test]
 fn tabs_between_fields_count_as_spaces() {
     let mut rng = Rng::new(16);
-    for arguments in UNFRAMED {
-        let input = joined((0..4_000).map(|_| typed_line(&mut rng, arguments)));
+    for arguments in [COMMANDS[0], COMMANDS[3], COMMANDS[4]] {
+        let typed = (0..4_000).map(|_| {
+            let report = random_telemetry(&mut rng);
+            let message = match arguments {
+                ["encode"] => random_message(&mut rng),
+                _ => telemetry::write(&report, 6, 4).unwrap(),
+            };
+            match arguments {
+                ["telemetry", "--write"] => typed_report(&mut rng, &report),
+                _ => typed_message(&mut rng, &message),
+            }
+        });
+        let input = joined(typed);
         let spaces: Vec<u8> =
             input.iter().map(|&byte| if byte == b'\t' { b' ' } else { byte }).collect();
         assert!(input != spaces, "there are tabs");
@@ -1282,9 +1117,6 @@ const SEEN_OF_NUMBERS: &[Seen] = &[
     ("telemetry --write", 0, 300),
     ("telemetry --write", 1, 1),
     ("telemetry --write", 14, 5_000),
-    ("telemetry --extended --write", 0, 1_000),
-    ("telemetry --extended --write", 1, 5_000),
-    ("telemetry --extended --write", 22, 3_000),
 ];
 
 /// Numbers as they stand in powers, reports and options. Every text of up to four of these
@@ -1300,19 +1132,17 @@ fn numbers_of_every_form_are_answered() {
         texts.extend(longer);
     }
     texts.extend(odd_numbers());
-    let mut counts = Counts::new();
-    for (arguments, fields) in [(COMMANDS[4], 2..7), (COMMANDS[6], 1..6)] {
-        let right = String::from_utf8(right_line(arguments)).unwrap();
-        let mut reports = Vec::new();
-        for text in &texts {
-            for field in fields.clone() {
-                let mut line: Vec<&str> = right.split(' ').collect();
-                line[field] = text;
-                reports.extend(joined([line.join(" ")]));
-            }
+    let fields = [2, 3, 4, 5, 6];
+    let mut reports = Vec::new();
+    for text in &texts {
+        for field in fields {
+            let mut line: Vec<&str> = "Q2 SK 12340 -15 4100 30 1".split(' ').collect();
+            line[field] = text;
+            reports.extend(joined([line.join(" ")]));
         }
-        check_counting(&mut counts, arguments, &reports);
     }
+    let mut counts = Counts::new();
+    check_counting(&mut counts, &["telemetry", "--write"], &reports);
     let messages = joined(texts.iter().map(|text| format!("K1ABC FN20 {text}")));
     check_counting(&mut counts, &["encode"], &messages);
     counts.finish(SEEN_OF_NUMBERS);
@@ -1343,9 +1173,7 @@ fn odd_numbers() -> Vec<String> {
     for number in ["0", "1", "30", "37", "4100", "-15.3"] {
         let digits = number.trim_start_matches('-');
         let sign = &number[..number.len() - digits.len()];
-        numbers.extend(
-            [1, 9, 20, 300, 1_100].map(|count| format!("{sign}{}{digits}", "0".repeat(count))),
-        );
+        numbers.extend([1, 9, 20, 300].map(|count| format!("{sign}{}{digits}", "0".repeat(count))));
     }
     numbers
 }
@@ -1383,8 +1211,6 @@ fn any_line(rng: &mut Rng, arguments: &[&str]) -> Vec<u8> {
         Command::Telemetry => random_u4b_line(rng),
         Command::Read | Command::Repair { .. } => random_frame_line(rng),
         Command::WriteTelemetry => random_report_line(rng),
-        Command::Extended => random_extended_line(rng, arguments),
-        Command::WriteExtended => random_extended_report_line(rng, &call(arguments).table),
     };
     if takes_messages(arguments) && rng.coin() {
         recase(rng, &mut line);
@@ -1415,13 +1241,10 @@ fn random_u4b_line(rng: &mut Rng) -> Vec<u8> {
     let a = if high { rng.between(615_000, u64::from(ROOM_A) - 1) } else { rng.below(615_000) };
     let least = if rng.below(4) == 0 { 604_000 } else { 0 };
     let b = rng.between(least, u64::from(ROOM_B) - 1);
-    number_line(rng, a * u64::from(ROOM_B) + b)
-}
-
-/// A message with a channel and this number in its other places.
-fn number_line(rng: &mut Rng, number: u64) -> Vec<u8> {
-    let Extended { first, third, .. } = random_header(rng);
-    message_line(&extended::message_of(first, third, number.into()))
+    let channel = [rng.pick(b"01Q"), rng.between(b'0'.into(), b'9'.into()) as u8];
+    let callsign = telemetry::callsign_of(channel[0], channel[1], a as u32);
+    let (locator, power) = telemetry::locator_and_power_of(b as u32);
+    message_line(&Message { callsign, locator, power })
 }
 
 fn random_frame_line(rng: &mut Rng) -> Vec<u8> {
@@ -1455,68 +1278,6 @@ fn random_report_line(rng: &mut Rng) -> Vec<u8> {
         spoil_telemetry(rng, &mut report, place);
     }
     typed_report(rng, &report)
-}
-
-/// An extended report that is answered with this table, as people type it. Its readings are within
-/// their fields' ranges or not.
-fn typed_extended(rng: &mut Rng, table: &[i64]) -> Vec<u8> {
-    let mut fields: Vec<String> =
-        header(&random_header(rng)).split(' ').map(String::from).collect();
-    for field in fields_of(table) {
-        let reading = random_reading(rng, &field);
-        fields.push(match rng.below(20) {
-            0 if reading >= 0 => format!("+{reading}"),
-            1 if reading >= 0 => format!("00{reading}"),
-            2 => format!("{reading}00000000000000000000"),
-            _ => reading.to_string(),
-        });
-    }
-    let fields: Vec<&[u8]> = fields.iter().map(String::as_bytes).collect();
-    spaced(rng, &fields)
-}
-
-/// Channel, slot and type.
-fn header(extended: &Extended) -> String {
-    let [first, third] = [extended.first, extended.third].map(char::from);
-    format!("{first}{third} {} {}", extended.slot, extended.kind)
-}
-
-/// A message of extended telemetry with the table of this call.
-fn extended_message(rng: &mut Rng, arguments: &[&str]) -> Message {
-    let write = call(&[arguments, &["--write"]].concat());
-    let report = joined([typed_extended(rng, &write.table)]);
-    let answer = reference::answers(&write, &report).next();
-    match answer {
-        Some(Ok(Answer::Message(message))) => message,
-        _ => panic!("{answer:?} answers {}", report.escape_ascii()),
-    }
-}
-
-/// Extended telemetry of this table, of another, or not at all.
-fn random_extended_line(rng: &mut Rng, arguments: &[&str]) -> Vec<u8> {
-    let [any, small] = [rng.below(u64::from(ROOM_A) * u64::from(ROOM_B)), rng.below(1 << 28)];
-    match rng.below(8) {
-        0 => random_message_line(rng),
-        1 => random_u4b_line(rng),
-        2 => number_line(rng, any / 8 * 8),
-        3 => number_line(rng, small),
-        _ => typed_line(rng, arguments),
-    }
-}
-
-/// An extended report, one with a field that isn't right, or one with a field too few or too many.
-fn random_extended_report_line(rng: &mut Rng, table: &[i64]) -> Vec<u8> {
-    let line = typed_extended(rng, table);
-    let mut fields: Vec<&[u8]> =
-        line.split(|byte| b" \t".contains(byte)).filter(|field| !field.is_empty()).collect();
-    let place = rng.below(fields.len() as u64) as usize;
-    match rng.below(8) {
-        0 => fields[place] = rng.pick(&[&b"x"[..], b"-", b"5", b"16", b"1.5", b"Q2", b"q2", b"QQ"]),
-        1 => drop(fields.remove(place)),
-        2 => fields.insert(place, b"1"),
-        _ => (),
-    }
-    spaced(rng, &fields)
 }
 
 const SEEN_OF_RANDOM_LINES: &[Seen] = &[
@@ -1556,18 +1317,6 @@ const SEEN_OF_RANDOM_LINES: &[Seen] = &[
     ("telemetry --write", 0, 2_000),
     ("telemetry --write", 1, 100),
     ("telemetry --write", 14, 1_000),
-    ("telemetry --extended", 0, 2_000),
-    ("telemetry --extended", 1, 100),
-    ("telemetry --extended", 2, 100),
-    ("telemetry --extended", 3, 20),
-    ("telemetry --extended", 10, 100),
-    ("telemetry --extended", 20, 300),
-    ("telemetry --extended", 21, 200),
-    ("telemetry --extended", 23, 200),
-    ("telemetry --extended --write", 0, 2_000),
-    ("telemetry --extended --write", 1, 500),
-    ("telemetry --extended --write", 14, 100),
-    ("telemetry --extended --write", 22, 100),
 ];
 
 #[test]
@@ -1586,7 +1335,7 @@ fn random_lines_are_answered() {
 fn lines_of_other_commands_are_answered() {
     let mut rng = Rng::new(4);
     for arguments in COMMANDS {
-        let lines = (0..500).map(|turn| any_line(&mut rng, COMMANDS[turn % COMMANDS.len()]));
+        let lines = (0..500).map(|turn| any_line(&mut rng, COMMANDS[turn % 5]));
         check(arguments, &joined(lines));
     }
 }
@@ -1637,15 +1386,7 @@ fn a_megabyte_of_newlines_is_a_million_lines() {
         let with_json = [arguments, &["--json"]].concat();
         assert_json(&mut counts, &call(&with_json), &input, &run(&with_json));
     }
-    let names = [
-        "encode",
-        "read",
-        "repair",
-        "telemetry",
-        "telemetry --write",
-        "telemetry --extended",
-        "telemetry --extended --write",
-    ];
+    let names = ["encode", "read", "repair", "telemetry", "telemetry --write"];
     counts.finish(&names.map(|name| (name, 1, MEGABYTE as u64)));
 }
 
@@ -1672,36 +1413,6 @@ fn what_telemetry_writes_it_reads() {
     let (write, read) = (&["telemetry", "--write"], &["telemetry"]);
     assert_output(&messages, &pipe(read, write, &messages), &messages, 0);
     assert_output(&reports, &pipe(write, read, &reports), &reports, 0);
-}
-
-/// With the table that no message of extended telemetry is too large for, with the manual page's
-/// and with random ones.
-#[test]
-fn what_extended_telemetry_writes_it_reads() {
-    let mut rng = Rng::new(19);
-    let mut tables = vec![FULL.to_string(), TABLE.to_string()];
-    tables.extend((0..20).map(|_| random_table(&mut rng)));
-    for table in tables {
-        let [write, read] = with_table(&table);
-        let table = call(&write).table;
-        let codes = codes_of(&fields_of(&table)).unwrap() as u64;
-        let messages = joined((0..1_000).map(|_| {
-            let number = 8 * rng.below(16 * 5 * codes);
-            number_line(&mut rng, number)
-        }));
-        assert_output(&messages, &pipe(&read, &write, &messages), &messages, 0);
-        let reports = joined((0..1_000).map(|_| extended_report_line(&mut rng, &table)));
-        assert_output(&reports, &pipe(&write, &read, &reports), &reports, 0);
-    }
-}
-
-/// An extended report as it is read: each reading is one of its field's.
-fn extended_report_line(rng: &mut Rng, table: &[i64]) -> String {
-    let mut line = header(&random_header(rng));
-    for Field { lowest, step, count } in fields_of(table) {
-        line += &format!(" {}", lowest + step * rng.below(count as u64) as i64);
-    }
-    line
 }
 
 /// Whichever four data bits of a message's frame are flipped, or fewer, the message comes back.
@@ -1733,329 +1444,6 @@ fn flips_of(turn: usize) -> usize {
     } else {
         1 + turn / 2 % 3
     }
-}
-
-// Extended telemetry
-
-/// A table whose counts have the largest product, 608,612,940: nothing is ever left over.
-const FULL: &str = "0:1:2916,-10:5:5,-1098:1:2197,7:1:19";
-
-/// Writes and reads with this table.
-fn with_table(table: &str) -> [Vec<&str>; 2] {
-    [vec!["telemetry", "--write", "--extended", table], vec!["telemetry", "--extended", table]]
-}
-
-/// The readings are worked out by hand: those that are sent, and those that read back.
-#[test]
-fn extended_readings_are_clamped_and_rounded_to_the_nearest_step() {
-    for (table, sent, back) in [
-        (TABLE, "0 -50 0", "0 -50 0"),
-        (TABLE, "21340 39 1", "21340 39 1"),
-        (TABLE, "+012340 -0015 +1", "12340 -15 1"),
-        (TABLE, "12349 -15 1", "12340 -15 1"),
-        (TABLE, "12350 -15 1", "12360 -15 1"),
-        (TABLE, "12351 -0 -0", "12360 0 0"),
-        (TABLE, "-1 -51 -1", "0 -50 0"),
-        (TABLE, "21341 40 2", "21340 39 1"),
-        (TABLE, "21349 39 1", "21340 39 1"),
-        (TABLE, "9223372036854775807 -9223372036854775808 2147483648", "21340 -50 1"),
-        (TABLE, "-9223372036854775809 9223372036854775808 -2147483649", "0 39 0"),
-        (TABLE, "18446744073709551616 -18446744073709551617 4294967296", "21340 -50 1"),
-        (TABLE, "-18446744073709551596 18446744073709551601 -4294967295", "0 39 0"),
-        ("-10:4:5", "-9", "-10"),
-        ("-10:4:5", "-8", "-6"),
-        ("-10:4:5", "-4", "-2"),
-        ("-10:4:5", "0", "2"),
-        ("-10:4:5", "-1", "-2"),
-        ("-10:4:5", "1", "2"),
-        ("-10:4:5", "-12", "-10"),
-        ("-10:4:5", "7", "6"),
-        ("-10:5:4", "-8", "-10"),
-        ("-10:5:4", "-7", "-5"),
-        ("-10:5:4", "-3", "-5"),
-        ("-10:5:4", "-2", "0"),
-        ("-2147483648:4294967295:2", "-1", "-2147483648"),
-        ("-2147483648:4294967295:2", "0", "2147483647"),
-        ("2147483646:1:2", "2147483647", "2147483647"),
-    ] {
-        let [write, read] = with_table(table);
-        let found = pipe(&write, &read, &joined([format!("Q7 4 15 {sent}")]));
-        let found = String::from_utf8_lossy(&found).into_owned();
-        assert_eq!(found, format!("Q7 4 15 {back}\n"), "{sent} with {table}");
-    }
-}
-
-/// The messages are worked out by hand: the smallest and the largest number of each table.
-#[test]
-fn the_first_and_the_last_message_of_a_table_are_answered() {
-    for (table, report, message) in [
-        (TABLE, "00 0 0 0 -50 0", "000AAA AA00 00"),
-        (TABLE, "Q9 4 15 21340 39 1", "Q09AHR PI52 13"),
-        (FULL, "00 0 0 0 -10 -1098 7", "000AAA AA00 00"),
-        (FULL, "19 4 15 2915 10 1098 25", "1Z9ZZZ RR99 37"),
-    ] {
-        let [write, read] = with_table(table);
-        assert_answer(&write, report.as_bytes(), message);
-        assert_answer(&read, message.as_bytes(), report);
-        assert_answer(&read, message.to_ascii_lowercase().as_bytes(), report);
-    }
-}
-
-#[test]
-fn extended_telemetry_is_answered_in_json() {
-    for (arguments, line, answer) in [
-        (COMMANDS[5], EXTENDED, r#"{"channel":"Q2","slot":3,"type":1,"readings":[12340,-15,1]}"#),
-        (COMMANDS[6], EXTENDED_REPORT, r#"{"callsign":"Q02AFJ","locator":"HO45","power":57}"#),
-        (
-            &["telemetry", "--extended=5:1:2"],
-            b"000AAA AA00 00",
-            r#"{"channel":"00","slot":0,"type":0,"readings":[5]}"#,
-        ),
-        (
-            COMMANDS[5],
-            TELEMETRY,
-            r#"{"refusal":20,"place":0,"reason":"basic telemetry, not extended"}"#,
-        ),
-    ] {
-        assert_answer(&[arguments, &["--json"]].concat(), line, answer);
-    }
-}
-
-#[test]
-fn summaries_count_the_refusals_of_extended_telemetry() {
-    let messages: [&[u8]; 6] =
-        [EXTENDED, TELEMETRY, b"000AAA AA00 07", b"0Z0ZZZ RR99 37", MESSAGE, TELEMETRY];
-    let reports: [&[u8]; 5] = [EXTENDED_REPORT, b"Q2 5 1 0 0 0", b"", EXTENDED_REPORT, REPORT];
-    for (arguments, lines, summary) in [
-        (COMMANDS[5], &messages[..], "6 lines, 1 answered, 5 refused (10: 1, 20: 2, 21: 1, 23: 1)"),
-        (COMMANDS[6], &reports, "5 lines, 2 answered, 3 refused (1: 2, 22: 1)"),
-    ] {
-        let ended = wsprcard(arguments).run(&joined(lines));
-        let found = String::from_utf8_lossy(&ended.stderr).into_owned();
-        assert_eq!(found, format!("wsprcard telemetry: {summary}\n"));
-        assert_eq!(ended.status.code(), Some(1), "{summary}");
-    }
-}
-
-/// Fields that aren't of their form, a line each.
-const WRONG_FIELDS: &str = "
-,
-:
-::
-0
-0:1
-0:1:
-0:1:2:
-0:1:2:3
-:1:2
-0::2
-0:1:2,
-,0:1:2
-0:1:2,,0:1:2
-0:1:2,0:1
-0:1,0:1:2
-0,1,2
-0:1:2:0:1:2
-0:1:2;0:1:2
-0:1:2/0:1:2
-x:1:2
-0:x:2
-0:1:x
-0:1:2x
-x0:1:2
- 0:1:2
-0:1:2\x20
-0: 1:2
-0:1 :2
-0:1:2, 0:1:2
-0:1:2 0:1:2
-+0:1:2
-0:+1:2
-0:1:+2
--:1:2
-0:-:2
-0:1:-
---1:1:2
--+1:1:2
-1-:1:2
-0.5:1:2
-0:1.0:2
-1e1:1:2
-0x0:1:2
-\t0:1:2
-0:1:2\r
-\u{661}:1:2
-99999999999999999999x:1:2
---json
---write";
-
-/// Tables that are of their form, and that the card refuses: a bound of its rule each, and numbers
-/// that are good ones in 32 or in 64 bits.
-const BAD_TABLES: &str = "
-    0:0:2 0:-1:2 0:1:1 0:1:0 0:1:-2 0:0:0 -1:-1:-1 0:1:2,0:0:2 0:1:2,0:1:1 2147483648:1:2
-    2147483647:1:2 -2147483649:1:2 -2147483650:1:2 0:2147483648:2 -2147483648:4294967296:2
-    2147483645:1:4 0:2:1073741825 0:1:608612941 0:1:2147483649 0:1:608612940,0:1:2
-    0:1:2,0:1:304306471 0:1:24671,0:1:24671 0:1:65536,0:1:65536
-    0:1:65536,0:1:65536,0:1:65536,0:1:65536 0:1:4294967296,0:1:4294967296 4294967296:1:2
-    0:4294967297:2 0:1:4294967298 9223372036854775807:1:2 0:9223372036854775807:2
-    0:1:9223372036854775807 9223372036854775808:1:2 0:9223372036854775808:2
-    0:1:9223372036854775808 -9223372036854775808:1:2 -9223372036854775809:1:2
-    0:1:-9223372036854775809 18446744073709551616:1:2 0:18446744073709551617:2
-    0:1:18446744073709551618 99999999999999999999999999999999:1:2
-    -99999999999999999999999999999999:1:2";
-
-const USAGE: &str = "usage: wsprcard telemetry [--extended FIELDS] [--write] [--json]\n";
-
-const NEEDS_FIELDS: &str = "needs fields as lowest:step:count, separated by commas.\n";
-
-/// Holds the program to this complaint and status 2. Nothing is read.
-fn assert_complaint(arguments: &[&str], complaint: &str) {
-    assert_eq!(reference::call(arguments), None, "{arguments:?}");
-    let ended = run_unread(arguments);
-    assert_eq!(ended.status.code(), Some(2), "{arguments:?}");
-    assert_eq!(String::from_utf8_lossy(&ended.stdout), "", "{arguments:?}");
-    let expected = format!("wsprcard telemetry: '--extended' {complaint}{USAGE}");
-    assert_eq!(String::from_utf8_lossy(&ended.stderr), expected, "{arguments:?}");
-}
-
-/// The same in every form of the call with these fields.
-fn assert_wrong_table(fields: &str, complaint: &str) {
-    let with_sign = format!("--extended={fields}");
-    assert_complaint(&["telemetry", "--extended", fields], complaint);
-    assert_complaint(&["telemetry", "--write", &with_sign, "--json"], complaint);
-    assert_complaint(&["telemetry", "--extended", TABLE, &with_sign], complaint);
-}
-
-#[test]
-fn fields_that_are_not_of_their_form_are_told() {
-    for fields in WRONG_FIELDS.split('\n').chain(["0:1:2\n", "0\n:1:2"]) {
-        assert_wrong_table(fields, NEEDS_FIELDS);
-    }
-}
-
-/// Nothing stands behind the option, where it is the last one.
-#[test]
-fn missing_fields_are_told() {
-    for arguments in [&["telemetry", "--extended"][..], &["telemetry", "--write", "--extended"]] {
-        assert_complaint(arguments, NEEDS_FIELDS);
-    }
-}
-
-#[test]
-fn tables_that_the_card_refuses_are_told() {
-    let mut tables: Vec<String> = BAD_TABLES.split_whitespace().map(String::from).collect();
-    tables.extend([30, 31, 32, 33, 60, 64, 256, 1_000].map(|count| table_of(count, "0:1:2")));
-    for fields in tables {
-        assert_wrong_table(
-            &fields,
-            "has a table that the card refuses.\n\
-             A table has 1 to 29 fields. Each step is 1 or more, each count 2 or more, the\n\
-             product of the counts at most 608612940. Each field's lowest and highest reading\n\
-             are within -2147483648 to 2147483647.\n",
-        );
-    }
-}
-
-/// The same field so many times.
-fn table_of(count: usize, field: &str) -> String {
-    vec![field; count].join(",")
-}
-
-/// Tables at the bounds of the rule, and numbers with zeros in front.
-const GOOD_TABLES: &str = "
-    0:1:2 -0:1:2 000:0001:00000000000000000000000000000002 -2147483648:1:2 2147483646:1:2
-    -2147483648:4294967295:2 0:2147483647:2 0:1:608612940 -2147483648:7:608612940
-    1538870708:1:608612940 0:1:304306470,0:1:2 0:1:24669,0:1:24670 5:1:2,5:1:2,7:3:9";
-
-const SEEN_OF_TABLES: &[Seen] = &[
-    ("telemetry --extended", 0, 5_000),
-    ("telemetry --extended", 1, 100),
-    ("telemetry --extended", 2, 100),
-    ("telemetry --extended", 3, 20),
-    ("telemetry --extended", 10, 300),
-    ("telemetry --extended", 20, 1_000),
-    ("telemetry --extended", 21, 1_000),
-    ("telemetry --extended", 23, 500),
-    ("telemetry --extended --write", 0, 10_000),
-    ("telemetry --extended --write", 1, 3_000),
-    ("telemetry --extended --write", 14, 200),
-    ("telemetry --extended --write", 22, 500),
-];
-
-/// Tables at the bounds, of 1 to 29 fields and random ones, each on lines for its own fields.
-#[test]
-fn every_table_that_the_card_takes_is_answered() {
-    let mut rng = Rng::new(17);
-    let mut tables: Vec<String> = GOOD_TABLES.split_whitespace().map(String::from).collect();
-    tables.push(FULL.to_string());
-    tables.extend((1..=29).map(|count| table_of(count, "-1:3:2")));
-    tables.extend((0..60).map(|_| random_table(&mut rng)));
-    let mut counts = Counts::new();
-    for table in tables {
-        for arguments in with_table(&table) {
-            let lines: Vec<_> = (0..200).map(|_| any_line(&mut rng, &arguments)).collect();
-            check_counting(&mut counts, &arguments, &joined(lines));
-        }
-    }
-    counts.finish(SEEN_OF_TABLES);
-}
-
-/// A table of 1 to 29 fields, as it is given to the program.
-fn random_table(rng: &mut Rng) -> String {
-    let len = rng.between(1, MOST_FIELDS as u64) as usize;
-    let fields = random_fields(rng, len);
-    let field = |field: &Field| format!("{}:{}:{}", field.lowest, field.step, field.count);
-    fields.iter().map(field).collect::<Vec<_>>().join(",")
-}
-
-/// The longest line that is of use: 29 readings of 20 characters. Spaces may fill it up to what is
-/// kept of a line; one more, and it is refused.
-#[test]
-fn the_longest_extended_report_is_answered() {
-    let table = table_of(29, "-2147483648:4294967295:2");
-    let [write, read] = with_table(&table);
-    for (sent, back) in
-        [("-9223372036854775808", "-2147483648"), ("+9223372036854775807", "2147483647")]
-    {
-        let line = format!("Q2 4 15{}", format!(" {sent}").repeat(29));
-        assert_eq!(line.len(), 616);
-        let expected = format!("Q2 4 15{}\n", format!(" {back}").repeat(29));
-        for width in [0, 1_024] {
-            for line in [format!("{line:width$}"), format!("{line:>width$}")] {
-                let found = pipe(&write, &read, &joined([line]));
-                assert_eq!(String::from_utf8_lossy(&found), expected);
-            }
-        }
-        let refused = format!("refused {EXTENDED_FORM}");
-        assert_answer(&write, format!("{line:1025}").as_bytes(), &refused);
-        assert_answer(&write, format!("{line} 1").as_bytes(), &refused);
-        assert_answer(&write, &line.as_bytes()[..line.len() - 21], &refused);
-        assert_answer(&write, &line.as_bytes()[2..], &refused);
-        check(&write, &joined([&line]));
-    }
-}
-
-/// By the program alone: of the messages that 1, 2, 3 and 10 don't refuse, each is refused 11 as
-/// basic telemetry or 20 as extended, and never both.
-#[test]
-fn telemetry_is_either_basic_or_extended() {
-    let mut rng = Rng::new(18);
-    let lines: Vec<_> = (0..6_000).map(|_| any_line(&mut rng, COMMANDS[5])).collect();
-    let input = joined(lines);
-    let [basic, extended] = [COMMANDS[3], COMMANDS[5]]
-        .map(|arguments| String::from_utf8(wsprcard(arguments).run(&input).stdout).unwrap());
-    let mut kinds = [0; 2];
-    for (basic, extended) in basic.lines().zip(extended.lines()) {
-        let starts = ["refused 1 ", "refused 2 ", "refused 3 ", "refused 10 "];
-        if let Some(start) = starts.iter().find(|start| basic.starts_with(*start)) {
-            assert!(extended.starts_with(start), "{basic}; {extended}");
-        } else {
-            let is_extended = basic.starts_with("refused 11 ");
-            assert_ne!(is_extended, extended.starts_with("refused 20 "), "{basic}; {extended}");
-            kinds[usize::from(is_extended)] += 1;
-        }
-    }
-    assert!(kinds[0] > 300 && kinds[1] > 2_000, "{kinds:?}");
 }
 
 // Limits and budgets
@@ -2098,8 +1486,8 @@ fn every_limit_and_budget_is_answered() {
     counts.finish(SEEN_OF_LIMITS);
 }
 
-/// Frames with no flips, a message's and another word's; with as many as the limit and with one
-/// more; noise; sync bits that are wrong; a symbol that is none; and a line that is too short.
+/// Frames with no flips, a message's and another word's; with as many as the limit and with one more; noise; sync bits that are
+/// wrong; a symbol that is none; and a line that is too short.
 fn frames_around(rng: &mut Rng, limit: usize) -> Vec<u8> {
     let telemetry = frame_of(word_of_line(&telemetry_line(rng)));
     let number = rng.pick(&[4, 5, 6]);
@@ -2206,18 +1594,6 @@ fn options_stand_in_any_order() {
     check(&["telemetry", "--write", "--write"], &report);
     let json_first = ["telemetry", "--json", "--write"];
     assert_ended(&json_first, &report, &wsprcard(&json_first).run(&report));
-    let extended = joined([EXTENDED, EXTENDED_REPORT]);
-    let with_sign = format!("--extended={TABLE}");
-    for arguments in [
-        &["telemetry", &with_sign][..],
-        &["telemetry", "--write", "--extended", TABLE],
-        &["telemetry", &with_sign, "--write"],
-        &["telemetry", "--write", &with_sign, "--write"],
-        &["telemetry", "--extended", "0:1:2", "--extended", TABLE],
-        &["telemetry", &with_sign, "--extended=0:1:2", "--write"],
-    ] {
-        check(arguments, &extended);
-    }
 }
 
 // Calls
@@ -2284,21 +1660,7 @@ repair --budget --limit 3
 repair --budget=two
 repair --lim 3
 repair --limits=3
-repair --limit3
-encode --extended 0:1:2
-read --extended=0:1:2
-repair --extended 0:1:2
---extended 0:1:2
-telemetry --extended
-telemetry --write --extended
-telemetry --extended=
-telemetry --extended --write
-telemetry --extends 0:1:2
-telemetry --extended0:1:2
-telemetry --extend=0:1:2
-telemetry 0:1:2
-telemetry --extended 0:1:2 0:1:2
-telemetry --extended 0:1:2 --limit 3";
+repair --limit3";
 
 #[test]
 fn wrong_calls_are_told_and_read_nothing() {
@@ -2323,10 +1685,7 @@ fn help_and_version_are_printed_and_nothing_is_read() {
         (&["encode", "--help"], &["encode", "--json"]),
         (&["read", "--help"], &["read", "--json"]),
         (&["repair", "--help"], &["repair", "--limit", "--budget", "--json"]),
-        (
-            &["telemetry", "--help"],
-            &["telemetry", "--extended FIELDS", "--write", "--json", "608612940", TABLE],
-        ),
+        (&["telemetry", "--help"], &["telemetry", "--write", "--json"]),
         (&["--version"], &["wsprcard", "1.0"]),
     ] {
         let ended = run_unread(arguments);
@@ -2336,7 +1695,6 @@ fn help_and_version_are_printed_and_nothing_is_read() {
         for name in names {
             assert!(stdout.contains(name), "{arguments:?} doesn't name {name}: {stdout}");
         }
-        assert!(stdout.lines().all(|line| line.len() <= 80), "{arguments:?}: {stdout}");
     }
 }
 

@@ -1,6 +1,5 @@
 // The host program, written from its manual page: for each line of its input one line with the
 // answer or the refusal, in plain text or in JSON, then a summary and the exit status.
-use super::extended::{self, Extended};
 use super::frame::{self, FRAME_LEN};
 use super::message::{self, Message, CALLSIGN_LEN, LOCATOR_LEN};
 use super::repair::{self, Repaired};
@@ -9,7 +8,7 @@ use super::Refusal;
 use std::collections::BTreeMap;
 
 /// A line with more bytes is refused, whatever it holds.
-const LONGEST_LINE: usize = 1_024;
+const LONGEST_LINE: usize = 256;
 
 /// What has no form at all is refused so.
 const WRONG_FORM: Refusal = Refusal { number: 1, place: 0 };
@@ -21,26 +20,21 @@ pub enum Command {
     Repair { limit: u32, budget: u32 },
     Telemetry,
     WriteTelemetry,
-    Extended,
-    WriteExtended,
 }
 
-/// What the program is asked by its arguments. The table is that of extended telemetry, three
-/// numbers a field, and empty for the other commands.
-#[derive(Clone, Debug, PartialEq, Eq)]
+/// What the program is asked by its arguments.
+#[derive(Clone, Copy, Debug, PartialEq, Eq)]
 pub struct Call {
     pub command: Command,
-    pub table: Vec<i64>,
     pub json: bool,
 }
 
 /// What a line is answered by, where it isn't refused.
-#[derive(Clone, Debug, PartialEq, Eq)]
+#[derive(Clone, Copy, Debug, PartialEq, Eq)]
 pub enum Answer {
     Encoded(Message, u64, [u8; FRAME_LEN]),
     Message(Message),
     Report(Telemetry),
-    Extended(Extended, Vec<i64>),
     Repaired(Repaired, Told),
 }
 
@@ -82,7 +76,6 @@ pub fn call(arguments: &[&str]) -> Option<Call> {
     let (name, mut options) = arguments.split_first()?;
     let mut json = false;
     let mut write = false;
-    let mut table = None;
     let mut limit = 4;
     let mut budget = None;
     while let Some((option, rest)) = options.split_first() {
@@ -90,7 +83,6 @@ pub fn call(arguments: &[&str]) -> Option<Call> {
         match (*name, *option) {
             (_, "--json") => json = true,
             ("telemetry", "--write") => write = true,
-            ("telemetry", _) => table = Some(option_table(option, &mut options)?),
             ("repair", _) if option.starts_with("--limit") => {
                 limit = option_number(option, "--limit", &mut options)?;
             }
@@ -103,42 +95,15 @@ pub fn call(arguments: &[&str]) -> Option<Call> {
         "encode" => Command::Encode,
         "read" => Command::Read,
         "repair" => Command::Repair { limit, budget },
-        "telemetry" => match (&table, write) {
-            (None, false) => Command::Telemetry,
-            (None, true) => Command::WriteTelemetry,
-            (Some(_), false) => Command::Extended,
-            (Some(_), true) => Command::WriteExtended,
-        },
+        "telemetry" if write => Command::WriteTelemetry,
+        "telemetry" => Command::Telemetry,
         _ => return None,
     };
-    Some(Call { command, table: table.unwrap_or_default(), json })
+    Some(Call { command, json })
 }
 
+/// The number behind an equals sign, or else the next argument.
 fn option_number(option: &str, name: &str, options: &mut &[&str]) -> Option<u32> {
-    number(option_value(option, name, options)?.as_bytes())
-}
-
-/// A table of extended telemetry, if the card takes it.
-fn option_table(option: &str, options: &mut &[&str]) -> Option<Vec<i64>> {
-    let given = option_value(option, "--extended", options)?;
-    let fields: Option<Vec<[i64; 3]>> = given.split(',').map(field).collect();
-    let table = fields?.concat();
-    extended::codes_of(&extended::fields_of(&table)).map(|_| table)
-}
-
-/// Lowest, step and count of a field.
-fn field(text: &str) -> Option<[i64; 3]> {
-    let numbers: Option<Vec<i64>> = text.split(':').map(field_number).collect();
-    numbers?.try_into().ok()
-}
-
-/// What the standard library takes, but for a plus.
-fn field_number(text: &str) -> Option<i64> {
-    text.parse().ok().filter(|_| !text.starts_with('+'))
-}
-
-/// What stands behind an equals sign, or else the next argument.
-fn option_value(option: &str, name: &str, options: &mut &[&str]) -> Option<String> {
     let given = match option.strip_prefix(name)? {
         "" => {
             let (given, rest) = options.split_first()?;
@@ -147,7 +112,7 @@ fn option_value(option: &str, name: &str, options: &mut &[&str]) -> Option<Strin
         }
         given => given.strip_prefix('=')?,
     };
-    Some(given.to_string())
+    number(given.as_bytes())
 }
 
 // The lines
@@ -162,7 +127,7 @@ pub fn answers<'a>(
             return Err(Refused { refusal: WRONG_FORM, reason: CUT_OFF });
         };
         let line = line.strip_suffix(b"\r").unwrap_or(line);
-        answer(call, line).map_err(|refusal| refused(call.command, refusal))
+        answer(call.command, line).map_err(|refusal| refused(call.command, refusal))
     })
 }
 
@@ -176,32 +141,22 @@ fn refused(command: Command, refusal: Refusal) -> Refused {
     Refused { refusal, reason: reason(command, &refusal) }
 }
 
-fn answer(call: &Call, line: &[u8]) -> Result<Answer, Refusal> {
+fn answer(command: Command, line: &[u8]) -> Result<Answer, Refusal> {
     if line.len() > LONGEST_LINE {
         return Err(WRONG_FORM);
     }
-    match call.command {
+    match command {
         Command::Encode => encoded(line),
         Command::Read => {
             frame::read_message(&symbols(line), CALLSIGN_LEN, LOCATOR_LEN).map(Answer::Message)
         }
-        Command::Repair { limit, budget } => repaired(call.command, line, limit, budget),
+        Command::Repair { limit, budget } => repaired(command, line, limit, budget),
         Command::Telemetry => {
             let (callsign, locator, power) = message_in(line)?;
             telemetry::read(&callsign, locator, power).map(Answer::Report)
         }
         Command::WriteTelemetry => {
             telemetry::write(&report_in(line)?, CALLSIGN_LEN, LOCATOR_LEN).map(Answer::Message)
-        }
-        Command::Extended => {
-            let (callsign, locator, power) = message_in(line)?;
-            extended::read(&callsign, locator, power, &call.table, call.table.len() / 3)
-                .map(|(report, readings)| Answer::Extended(report, readings))
-        }
-        Command::WriteExtended => {
-            let (report, readings) = extended_in(line, call.table.len() / 3)?;
-            extended::write(&report, &call.table, &readings, CALLSIGN_LEN, LOCATOR_LEN)
-                .map(Answer::Message)
         }
     }
 }
@@ -268,27 +223,12 @@ fn callsign_field(callsign: &[u8]) -> Vec<u8> {
     field
 }
 
-fn fields_in(line: &[u8]) -> Vec<&[u8]> {
-    line.split(is_between_fields).filter(|field| !field.is_empty()).collect()
-}
-
-/// An extended report with so many readings. Only its readings have to be numbers: what else isn't
-/// two characters or a number is given as one that is out of its range.
-fn extended_in(line: &[u8], count: usize) -> Result<(Extended, Vec<i64>), Refusal> {
-    let fields = fields_in(line);
-    let [channel, slot, kind, ref readings @ ..] = fields[..] else { return Err(WRONG_FORM) };
-    let [first, third] = channel.try_into().unwrap_or_default();
-    let numbers: Option<Vec<i64>> = readings.iter().map(|field| reading(field)).collect();
-    let readings = numbers.filter(|numbers| numbers.len() == count).ok_or(WRONG_FORM)?;
-    let [slot, kind] = [slot, kind].map(|field| number(field).unwrap_or(u32::MAX));
-    Ok((Extended { first, third, slot, kind }, readings))
-}
-
 /// A report in the units in which it is written. What isn't two characters or a number is given
 /// as one that is out of its range.
 fn report_in(line: &[u8]) -> Result<Telemetry, Refusal> {
-    let [channel, subsquare, altitude, temperature, voltage, speed, gps] = fields_in(line)[..]
-    else {
+    let fields = line.split(is_between_fields).filter(|field| !field.is_empty());
+    let fields: Vec<&[u8]> = fields.take(8).collect();
+    let [channel, subsquare, altitude, temperature, voltage, speed, gps] = fields[..] else {
         return Err(WRONG_FORM);
     };
     let [first, third] = channel.try_into().unwrap_or_default();
@@ -315,14 +255,6 @@ fn number(field: &[u8]) -> Option<u32> {
     })
 }
 
-/// A number with a sign or none. One that has no room is given as the nearest that has.
-fn reading(field: &[u8]) -> Option<i64> {
-    let (sign, unsigned) = signed(field);
-    number(unsigned)?;
-    let digits = unsigned.iter().map(|byte| i64::from(sign) * i64::from(byte - b'0'));
-    Some(digits.fold(0, |sum: i64, digit| sum.saturating_mul(10).saturating_add(digit)))
-}
-
 /// A number, and then a point and one digit or nothing.
 fn tenths(field: &[u8]) -> Option<u32> {
     let (whole, tenth) = match field {
@@ -333,17 +265,12 @@ fn tenths(field: &[u8]) -> Option<u32> {
 }
 
 fn signed_tenths(field: &[u8]) -> Option<i32> {
-    let (sign, unsigned) = signed(field);
-    Some(sign * i32::try_from(tenths(unsigned)?).unwrap_or(i32::MAX))
-}
-
-/// The sign, 1 or -1, and what stands behind it.
-fn signed(field: &[u8]) -> (i32, &[u8]) {
-    match field {
+    let (sign, unsigned) = match field {
         [b'-', rest @ ..] => (-1, rest),
         [b'+', rest @ ..] => (1, rest),
         _ => (1, field),
-    }
+    };
+    Some(sign * i32::try_from(tenths(unsigned)?).unwrap_or(i32::MAX))
 }
 
 // Plain text
@@ -354,7 +281,6 @@ fn plain(answer: &Result<Answer, Refused>) -> String {
         Ok(Answer::Encoded(_, _, frame)) => digits(frame),
         Ok(Answer::Message(message)) => plain_message(message),
         Ok(Answer::Report(report)) => plain_report(report),
-        Ok(Answer::Extended(report, readings)) => plain_extended(report, readings),
         Ok(Answer::Repaired(repaired, told)) => plain_repair(repaired, told),
     }
 }
@@ -387,17 +313,6 @@ fn plain_report(report: &Telemetry) -> String {
     format!("{channel} {subsquare} {altitude} {temperature} {voltage} {speed} {gps}")
 }
 
-fn plain_extended(report: &Extended, readings: &[i64]) -> String {
-    let Extended { first, third, slot, kind } = report;
-    let channel = text(&[*first, *third]);
-    format!("{channel} {slot} {kind} {}", joined(readings, " "))
-}
-
-/// The numbers with this between them.
-fn joined(numbers: &[i64], between: &str) -> String {
-    numbers.iter().map(i64::to_string).collect::<Vec<_>>().join(between)
-}
-
 fn plain_refusal(refused: &Refused) -> String {
     let Refused { refusal: Refusal { number, place }, reason } = refused;
     format!("refused {number} {place}: {reason}")
@@ -422,7 +337,6 @@ fn json(answer: &Result<Answer, Refused>) -> String {
         }
         Ok(Answer::Message(message)) => format!("{{{}}}", message_members(message)),
         Ok(Answer::Report(report)) => json_report(report),
-        Ok(Answer::Extended(report, readings)) => json_extended(report, readings),
         Ok(Answer::Repaired(repaired, told)) => json_repair(repaired, told),
     }
 }
@@ -456,13 +370,6 @@ fn json_report(report: &Telemetry) -> String {
     format!(
         r#"{{"channel":"{channel}","subsquare":"{subsquare}","altitude":{altitude},"temperature":{temperature},"voltage":{voltage},"speed":{speed},"gps":{gps}}}"#
     )
-}
-
-fn json_extended(report: &Extended, readings: &[i64]) -> String {
-    let Extended { first, third, slot, kind } = report;
-    let channel = text(&[*first, *third]);
-    let readings = joined(readings, ",");
-    format!(r#"{{"channel":"{channel}","slot":{slot},"type":{kind},"readings":[{readings}]}}"#)
 }
 
 fn json_refusal(refused: &Refused) -> String {
@@ -500,11 +407,6 @@ pub fn reason(command: Command, refusal: &Refusal) -> &'static str {
         }
         (17, _) => "no word is within the limit",
         (18, _) => "two or more words share the fewest disagreements",
-        (19, _) => "the table of fields is bad",
-        (20, _) => "basic telemetry, not extended",
-        (21, _) => "the reserved number isn't 0",
-        (22, _) => "the slot isn't 0 to 4 or the type isn't 0 to 15",
-        (23, _) => "a number is left over above the fields: most often another table's message",
         _ => panic!("no refusal is {refusal:?}"),
     }
 }
@@ -512,13 +414,10 @@ pub fn reason(command: Command, refusal: &Refusal) -> &'static str {
 fn wrong_form(command: Command) -> &'static str {
     match command {
         Command::Read | Command::Repair { .. } => "a frame has 162 symbols",
-        Command::Encode | Command::Telemetry | Command::Extended => {
+        Command::Encode | Command::Telemetry => {
             "the line isn't a callsign of up to 6 characters, a locator of 4 and a power"
         }
         Command::WriteTelemetry => "the line isn't a report of 7 fields",
-        Command::WriteExtended => {
-            "the line isn't channel, slot, type and a whole number for each field of the table"
-        }
     }
 }
 
@@ -574,10 +473,7 @@ impl Counts {
         let (name, more) = match call.command {
             Command::Encode => ("encode", String::new()),
             Command::Read => ("read", String::new()),
-            Command::Telemetry
-            | Command::WriteTelemetry
-            | Command::Extended
-            | Command::WriteExtended => ("telemetry", String::new()),
+            Command::Telemetry | Command::WriteTelemetry => ("telemetry", String::new()),
             Command::Repair { .. } => {
                 ("repair", format!("; {} messages, {} telemetry", self.messages, self.telemetry))
             }

@@ -1,6 +1,5 @@
 // An independent implementation of the card, written from the papers alone, one file a layer, and
 // of the programs over it.
-pub mod extended;
 pub mod frame;
 pub mod host;
 pub mod lines;

@@ -63,7 +63,14 @@ pub fn write(
 }
 
 pub fn read(callsign: &[u8], locator: &[u8], power: u32) -> Result<Telemetry, Refusal> {
-    let Message { callsign, locator, power } = channel_message(callsign, locator, power)?;
+    let Message { callsign, locator, power } =
+        message::message_in_capitals(callsign, locator, power)?;
+    if !is_first(callsign[0]) {
+        return Err(Refusal { number: 10, place: 0 });
+    }
+    if let Some(place) = (3..CALLSIGN_LEN).find(|&place| callsign[place] == b' ') {
+        return Err(Refusal { number: 10, place: place as u32 });
+    }
     let a = a_in(&callsign);
     let b = b_in(&locator, power);
     if b.is_multiple_of(2) {
@@ -78,19 +85,7 @@ pub fn read(callsign: &[u8], locator: &[u8], power: u32) -> Result<Telemetry, Re
     Ok(telemetry_of(callsign[0], callsign[2], a, b))
 }
 
-/// The message of a channel in capitals. Refuses what isn't one, of basic telemetry or extended.
-pub fn channel_message(callsign: &[u8], locator: &[u8], power: u32) -> Result<Message, Refusal> {
-    let message = message::message_in_capitals(callsign, locator, power)?;
-    if !is_first(message.callsign[0]) {
-        return Err(Refusal { number: 10, place: 0 });
-    }
-    match (3..CALLSIGN_LEN).find(|&place| message.callsign[place] == b' ') {
-        Some(place) => Err(Refusal { number: 10, place: place as u32 }),
-        None => Ok(message),
-    }
-}
-
-pub fn is_first(character: u8) -> bool {
+fn is_first(character: u8) -> bool {
     b"01Q".contains(&character)
 }
 
