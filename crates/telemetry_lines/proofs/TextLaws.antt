@@ -1,17 +1,18 @@
 -- Laws of numbers as text, and the bounds of a line of output.
-use mathlib.Core.Path.{◌≡◌, refl}
-use Prim.Native.Nat.{ℕ, zero, suc, ◌+◌, ◌-◌, ◌/◌, ◌%◌, ◌^◌, ◌≤◌, ◌<◌}
-use native.Mathlib.Nat.{le_trans, pow-suc, pow-le-pow_right}
+use mathlib.Core.Path.{◌≡◌, refl, sym, ◌∙◌}
+use Prim.Native.Nat.{ℕ, zero, suc, ◌+◌, ◌/◌, ◌%◌, ◌^◌, ◌≤◌, ◌<◌}
+use native.Mathlib.Nat.{pow-suc}
+use native.Mathlib.Numerals.{add-one}
 use native.Mathlib.Omega.{arith}
 use mathlib.Core.Bool.{true, false, true≢false}
-use mathlib.Core.List.{List, ◌∷◌, ◌++◌, append_assoc}
+use mathlib.Core.List.{List, [], ◌∷◌, ◌++◌, append_assoc, append-nil}
 use lib.Dec.{ltb}
 use lib.IntN.{ℤ, pos, negsuc, nat_abs}
-use lib.ListN.{length, length-append}
+use lib.ListN.{length, drop, set, length-append, length-set, drop_of_length-le}
 use lib.Signed.{lt_z}
 use borrow.Author.Tests.{lt-ltb, le-ltb, ltb-true}
 use Rattle.basics.specs.Ascii.{bytes}
-use Rattle.io.specs.Digits.{hex_digit_ascii, last_digits, IsDigitCount}
+use Rattle.std.proofs.lemmas.List.{drop-set}
 use Rattle.basics.proofs.Choice.{cond_both}
 use Rattle.telemetry.specs.declared.Reading.{Reading}
 use Rattle.telemetry.specs.declared.Sensors.{Sensors}
@@ -64,45 +65,63 @@ length_answer (TelemetryAnswer.Refused f) = length_refusal f
 
 -- ---- Numbers
 
-glyph_digit : (d : ℕ) → d < 10 → hex_digit_ascii d ≡ digit_character d
-unfolding digit_character
-glyph_digit d h = rw (lt-ltb d 10 h)
-
-decimal_last : (k n : ℕ) → n < 10 → last_digits 10 1 n ≡ decimal_of (suc k) n
+decimal_last : (k n : ℕ) → n < 10 → decimal_of (suc k) n ≡ digit_character n ∷ []
 unfolding decimal_of
-decimal_last k n h =
-    let digit : n % 10 ≡ n = omega arith in
-    rw (digit, glyph_digit n h, lt-ltb n 10 h)
+decimal_last k n h = rw (lt-ltb n 10 h)
 
--- A number of two digits or more: the power of ten with one digit fewer, and ten, are at most that.
-power_within : (n r : ℕ) → IsDigitCount 10 1 n (suc (suc r)) → 10 ^ suc r ≤ n
-power_within n r f =
-    let fewer : suc (suc r) - 1 ≡ suc r = omega arith in
-    rw fewer at (f.2 (omega arith))
-
-ten_within : (n r : ℕ) → IsDigitCount 10 1 n (suc (suc r)) → 10 ≤ n
-ten_within n r f = le_trans (pow-le-pow_right {n = 10} (omega arith) {i = 1} {j = suc r} (omega arith)) (power_within n r f)
-
--- One digit fewer holds a tenth.
-tenth_fewest : (n r : ℕ) → IsDigitCount 10 1 n (suc (suc r)) → IsDigitCount 10 1 (n / 10) (suc r)
-tenth_fewest n r f =
-    let fewer : suc r - 1 ≡ r = omega arith in
-    (omega arith, omega (arith, f.1, pow-suc 10 (suc r)), λ h. rw fewer (omega (arith, power_within n r f, pow-suc 10 r)))
-
--- The digits of the library's numerals, where they are the fewest, are the definition's.
-digits_decimal : (k n r : ℕ) → n < 10 ^ suc k → IsDigitCount 10 1 n r → last_digits 10 r n ≡ decimal_of (suc k) n
+decimal_more : (k n : ℕ) → 10 ≤ n → decimal_of (suc k) n ≡ decimal_of k (n / 10) ++ (digit_character (n % 10) ∷ [])
 unfolding decimal_of
-digits_decimal k n zero h f = absurd (omega (arith, f.0))
-digits_decimal k n (suc zero) h f = decimal_last k n (omega (arith, f.1))
-digits_decimal zero n (suc (suc r)) h f = absurd (omega (arith, ten_within n r f))
-digits_decimal (suc k) n (suc (suc r)) h f =
-    let above = ten_within n r f in
-    let tenth : n / 10 < 10 ^ suc k = omega (arith, pow-suc 10 (suc k)) in
-    rw (le-ltb n 10 above, glyph_digit (n % 10) (omega arith), digits_decimal k (n / 10) (suc r) tenth (tenth_fewest n r f))
+decimal_more k n h = rw (le-ltb n 10 h)
 
-pub decimal_by_fewest : (n r : ℕ) → n < 2 ^ 32 → IsDigitCount 10 1 n r → last_digits 10 r n ≡ decimal_text n
+-- The loop over a number's digits, the last first: those from `start` on stand, and `rest` is what is left of the number.
+pub record Writing (number rest start : ℕ) (digits : List ℕ) : Type 0 where
+  pub some : 1 ≤ start
+  pub most : start ≤ 10
+  pub long : length digits ≡ 10
+  pub below : rest < 10 ^ start
+  pub text : decimal_of start rest ++ drop start digits ≡ decimal_text number
+
+pub writing_starts : (number : ℕ) (digits : List ℕ) → number < 2 ^ 32 → length digits ≡ 10 → Writing number number 10 digits
 unfolding decimal_text
-decimal_by_fewest n r h f = digits_decimal 9 n r (omega arith) f
+writing_starts number digits h e =
+    record {
+      some = omega arith;
+      most = omega arith;
+      long = e;
+      below = omega arith;
+      text = rw (drop_of_length-le digits {i = 10} (omega arith)) (append-nil (decimal_of 10 number));
+    }
+
+-- While two digits or more are left, there is room for two.
+writing_room : {number rest start : ℕ} {digits : List ℕ} → Writing number rest start digits → 10 ≤ rest → 2 ≤ start
+writing_room {start = zero} w h = absurd (omega (arith, w.some))
+writing_room {start = suc zero} w h = absurd (omega (arith, w.below))
+writing_room {start = suc (suc s)} w h = omega arith
+
+pub writing_turn : {number rest start : ℕ} {digits : List ℕ} (s : ℕ) → start ≡ suc s → Writing number rest start digits → 10 ≤ rest
+    → Writing number (rest / 10) s (set digits s (48 + rest % 10))
+unfolding digit_character
+writing_turn {number} {rest} {start} {digits} s e w h =
+    let room = writing_room w h in
+    let within : s < length digits = omega (arith, w.most, w.long) in
+    let below = rw e at w.below in
+    let text = rw (e, decimal_more s rest h) at w.text in
+    record {
+      some = omega arith;
+      most = omega (arith, w.most);
+      long = length-set digits s (48 + rest % 10) ∙ w.long;
+      below = omega (arith, below, pow-suc 10 s);
+      text = rw (drop-set digits s (48 + rest % 10) within, add-one s)
+          (sym (append_assoc (decimal_of s (rest / 10)) ((48 + rest % 10) ∷ []) (drop (suc s) digits)) ∙ text);
+    }
+
+pub writing_ends : {number rest start : ℕ} {digits : List ℕ} (s : ℕ) → start ≡ suc s → Writing number rest start digits → rest < 10
+    → drop s (set digits s (48 + rest)) ≡ decimal_text number
+unfolding digit_character
+writing_ends {number} {rest} {start} {digits} s e w h =
+    let within : s < length digits = omega (arith, w.most, w.long) in
+    let text = rw (e, decimal_last s rest h) at w.text in
+    rw (drop-set digits s (48 + rest) within, add-one s) text
 
 pub integer_negative : (z : ℤ) → lt_z z (pos 0) ≡ true → integer_text z ≡ minus ∷ decimal_text (nat_abs z)
 unfolding integer_text

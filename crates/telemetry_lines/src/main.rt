@@ -11,86 +11,114 @@
 // The input is read in parts, and each part's output is written at once: nothing but the start of a
 // line is kept from one part to the next, so the input may be of any size, and its lines of any
 // length.
+#![tactic(auto)]
+
 mod line;
 mod output;
 mod stream;
 
-ghost use Rattle.std.specs.Prelude.{◌≡◌, ◌*◌, ◌≤◌, length, take};
+ghost use Rattle.std.specs.Prelude.{◌≡◌, ◌*◌, ◌≤◌, IfOk, OnErr, length, take};
 ghost use Rattle.telemetry_lines.specs.Text.{longest_line};
 ghost use Rattle.telemetry_lines.specs.Buffer.{Put};
 ghost use Rattle.telemetry_lines.specs.Stream.{most_kept, line_after, output_after, held_by};
 
-use libc::{STDIN_FILENO, STDOUT_FILENO};
 use line::Line;
+use std::io;
+use std::io::{Read, Stdin, Stdout, Write};
+
+// How many bytes a read gave (none at the input's end, or where it failed), and its error, if it failed.
+#[derive(Drop)]
+struct Got {
+    count: usize,
+    outcome: io::Result<()>,
+}
 
 // What a read gave: the line that is then begun, how many bytes of the input there were (none at its
-// end), where their output ends in the buffer, and whether they were read and it is written.
+// end), where their output ends in the buffer, and the error, if they weren't read or it isn't written.
 #[derive(Drop)]
 struct Part {
     line: Line,
     count: usize,
     end: usize,
-    is_good: bool,
+    outcome: io::Result<()>,
+}
+
+// Reads once, to the start of `input`.
+fn read_once(mut stdin: Stdin, input: &mut [u8]) -> Got
+    ensures in_bounds { result.count ≤ length input.new }
+    ensures failed { OnErr result.outcome (result.count ≡ 0) }
+{
+    match stdin.read(input) {
+        Ok(count) => Got {
+            count,
+            outcome: Ok(()),
+        },
+        Err(error) => Got {
+            count: 0,
+            outcome: Err(error),
+        },
+    }
 }
 
 // Reads a part of the input, where the line has begun, and writes its output by way of `out`.
-fn answer_part(line: Line, input: &mut [u8], out: &mut [u8]) -> Part
+fn answer_part(
+    stdin: Stdin,
+    mut stdout: Stdout,
+    line: Line,
+    input: &mut [u8],
+    out: &mut [u8],
+) -> Part
     requires length_le_most_kept { line.length ≤ most_kept }
     requires input_in_bounds { longest_line * length input.old ≤ length out.old }
     ensures output { Put out.old out.new 0 result.end (output_after (held_by line) (take result.count input.new)) }
     ensures line { held_by result.line ≡ take most_kept (line_after (held_by line) (take result.count input.new)) }
     ensures kept { result.line.length ≤ most_kept }
 {
-    let got = libc::read(STDIN_FILENO, input);
-    let count = io::count(got, input);
+    let got = read_once(stdin, input);
+    let count = got.count;
     let answered = stream::answer(line, &input[..count], out);
     let begun = answered.line;
     let end = answered.end;
-    let is_written = io::write_all(STDOUT_FILENO, &out[..end]);
+    let written = stdout.write_all(&out[..end]);
     Part {
         line: begun,
         count,
         end,
-        is_good: 0 <= got && is_written,
+        outcome: got.outcome.and(written),
     }
 }
 
 // Answers the lines that newlines end, and returns the line that none does, at the end of the input.
-// Where the input can't be read, or the output not be written, it ends too, and returns no line: what
-// was read of it may be a part only. A loop has to end, and nothing says that an input does: so the
-// reads are counted down, from a number that no run uses up. Of the streams no contract can speak, so
-// nothing more is promised of the line.
-fn answer_lines(input: &mut [u8], out: &mut [u8]) -> Line
+// Where the input can't be read, or the output not be written, it ends too, and returns the error. A
+// loop has to end, and nothing says that an input does: so the reads are counted down, from a number
+// that no run uses up. Of the streams no contract can speak, so nothing more is promised of the line.
+fn answer_lines(stdin: Stdin, stdout: Stdout, input: &mut [u8], out: &mut [u8]) -> io::Result<Line>
     requires { longest_line * length input.old ≤ length out.old }
-    ensures { result.length ≤ most_kept }
+    ensures { IfOk result (λ line. line.length ≤ most_kept) }
 {
     let mut line = line::empty();
     let mut is_more = true;
     let mut reads = u64::MAX;
     while is_more && 0 < reads {
-        let part = answer_part(line, input, out);
-        if !part.is_good {
-            return line::empty();
-        }
+        let part = answer_part(stdin, stdout, line, input, out);
+        part.outcome?;
         let begun = part.line;
         line = begun;
         is_more = 0 < part.count;
         reads -= 1;
     }
-    line
+    Ok(line)
 }
 
 // A line of output has at most 62 bytes, and a byte of input ends at most one line: so the output for
 // 1,024 bytes has room in 65,536.
-fn main() {
+fn main(rt: HostRuntime) -> io::Result<()> {
     let mut input = [0u8; 1024];
-    let mut out = io::large_buffer();
+    let mut out = [0u8; 65536];
+    let mut stdout = rt.stdout();
     let start = output::put_header(&mut out);
-    let is_written = io::write_all(STDOUT_FILENO, &out[..start]);
-    if !is_written {
-        return;
-    }
-    let line = answer_lines(&mut input, &mut out);
+    stdout.write_all(&out[..start])?;
+    let line = answer_lines(rt.stdin(), stdout, &mut input, &mut out)?;
     let end = stream::answer_last(line, &mut out);
-    io::write_all(STDOUT_FILENO, &out[..end]);
+    stdout.write_all(&out[..end])
 }

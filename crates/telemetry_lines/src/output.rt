@@ -1,6 +1,6 @@
 // Puts text into a lent buffer: numbers, the header, and the line for an answer. Each function puts
 // its text from `at` on, and answers where it ends.
-ghost use Rattle.std.specs.Prelude.{◌≡◌, [], ◌∷◌, ◌+◌, ◌≤◌, nat_abs, length};
+ghost use Rattle.std.specs.Prelude.{◌≡◌, [], ◌∷◌, ◌+◌, ◌≤◌, nat_abs, length, drop};
 ghost use Rattle.telemetry_lines.specs.Text.{space, decimal_text, integer_text, header, reading_text, refusal_text, answer_text, longest_line};
 ghost use Rattle.telemetry_lines.specs.Pieces.{position_text, first_sensor_text, last_sensor_text};
 ghost use Rattle.telemetry_lines.specs.Buffer.{Put};
@@ -28,13 +28,30 @@ fn put_byte(byte: u8, out: &mut [u8], at: usize) -> usize
     at + 1
 }
 
+// Puts a number's digits to the end of `digits`, and answers where they start.
+fn decimal(number: u32, digits: &mut [u8; 10]) -> usize
+    ensures start { result ≤ 10 }
+    ensures text { drop result digits.new ≡ decimal_text number }
+{
+    let mut rest = number;
+    let mut start = 10;
+    while 10 <= rest {
+        start -= 1;
+        digits[start] = b'0' + (rest % 10) as u8;
+        rest /= 10;
+    }
+    start -= 1;
+    digits[start] = b'0' + rest as u8;
+    start
+}
+
 fn put_decimal(number: u32, out: &mut [u8], at: usize) -> usize
     requires { at + 10 ≤ length out.old }
     ensures { Put out.old out.new at result (decimal_text number) }
 {
-    let mut digits = [0u8; 20];
-    let count = io::decimal(number as u64, &mut digits);
-    put(&digits[..count], out, at)
+    let mut digits = [0u8; 10];
+    let start = decimal(number, &mut digits);
+    put(&digits[start..], out, at)
 }
 
 // A number without its sign.

@@ -8,6 +8,9 @@ use super::line;
 use super::line::Line;
 use super::output::put_answer;
 
+// What ends a line.
+const NEWLINE: u8 = b'\n';
+
 // The line that is then begun, and where the output ends.
 #[derive(Drop)]
 pub(crate) struct Answered {
@@ -28,7 +31,7 @@ pub(crate) fn answer(line: Line, input: &[u8], out: &mut [u8]) -> Answered
     let mut i = 0;
     while i < input.len() {
         let byte = input[i];
-        if byte == b'\n' {
+        if byte == NEWLINE {
             end = put_answer(line::answer_held(begun), out, end);
             begun = line::empty();
         } else {
