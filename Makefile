@@ -1,4 +1,4 @@
-# What is made goes to target/ (rt), build/ (gcc, clang) and tests/target/ (cargo).
+# What is made goes to target/ (of what rt writes to the crates' out/), build/ (gcc, clang) and tests/target/ (cargo).
 CC = gcc
 CFLAGS = -O2
 COMPILE = $(CC) -std=c11 -Wall -Wextra $(CFLAGS) -Iinclude
@@ -31,14 +31,15 @@ install:
 	install -D -m 644 $(CARD) $(DESTDIR)$(PREFIX)/lib/libwsprcard.a
 
 # The gate first, as what it has proved isn't proved again for the outside tests; its last line, 'N passed, 0 failed', is
-# said once more at the end. The gate has passed only with that line and with exit status 0, which goes through a file,
-# as that of the pipe is tee's.
+# said once more at the end. The gate has passed only with that line, with no must-fail edit that is bad, and with exit
+# status 0, which goes through a file, as that of the pipe is tee's.
 test:
 	mkdir -p build
 	rm -f build/gate.status
 	{ rt ci 2>&1; echo $$? > build/gate.status; } | tee build/gate.log
 	test "$$(cat build/gate.status)" = 0
 	tail -n 1 build/gate.log | grep -q '^[0-9][0-9]* passed, 0 failed$$'
+	! grep -q '^rt: ok.*, [0-9][0-9]* bad' build/gate.log
 	$(MAKE) outside
 	tail -n 1 build/gate.log
 
@@ -56,13 +57,18 @@ bench: build/bench build/time_program build/wsprcard
 	./build/bench
 	./bench/wsjtx
 
-# rt proves what has changed since the last time, and writes the library only where all is proved.
+# rt proves what has changed since the last time, and writes the library only where all is proved. It is copied only
+# where it has changed, so that what is linked with it is linked anew just then.
 library:
-	rt staticlib wsprcard
+	cd crates/wsprcard && rt lib
+	mkdir -p target/staticlib
+	cmp -s crates/wsprcard/out/libwsprcard.a $(CARD) || cp crates/wsprcard/out/libwsprcard.a $(CARD)
 
-# The line program, target/bin/telemetry_lines. It waits for the library, as one rt is to run at a time.
+# The line program, target/bin/telemetry_lines: rt makes it to run it. It waits for the library, as one rt is to run at a
+# time.
 program: library
-	rt check telemetry_lines
+	cd crates/telemetry_lines && rt run < /dev/null
+	install -D crates/telemetry_lines/out/telemetry_lines $(LINE_PROGRAM)
 
 # The semicolon is a recipe that does nothing: after it make looks at the file again, so that what is linked with a new
 # library is linked anew.
@@ -158,4 +164,4 @@ fuzz-reference-covered:
 	RUSTFLAGS="$(COVERAGE)" $(CARGO_REFERENCE) tests/target/fuzz_covered
 
 clean:
-	rm -rf target build tests/target
+	rm -rf target build tests/target crates/*/out

@@ -1,4 +1,4 @@
-// Links the static library under test, which `rt staticlib wsprcard` builds beforehand.
+// Links the static library under test, which `make library` builds beforehand.
 use std::env;
 use std::path::Path;
 
@@ -11,9 +11,6 @@ fn main() {
     println!("cargo:rustc-link-search=native={}", folder.display());
     println!("cargo:rustc-link-lib=static=wsprcard");
     if !archive.exists() {
-        println!(
-            "cargo:warning={} is missing: run `rt staticlib wsprcard` first",
-            archive.display()
-        );
+        println!("cargo:warning={} is missing: run `make library` first", archive.display());
     }
 }

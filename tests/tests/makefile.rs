@@ -58,6 +58,8 @@ fn the_gate_passes_by_its_status_and_its_last_line() {
     let gates = [
         (true, "echo 7 passed, 0 failed"),
         (true, "echo 8 passed, 1 failed; echo 7 passed, 0 failed; exit 0"),
+        (true, "echo 'rt: ok; must-fail edits: 5 refused; so'; echo 7 passed, 0 failed"),
+        (false, "echo 'rt: ok; must-fail edits: 5 refused, 1 bad; so'; echo 7 passed, 0 failed"),
         (false, "echo 7 passed, 0 failed; exit 1"),
         (false, "echo 7 passed, 0 failed; exit 3"),
         (false, "echo 7 passed, 0 failed; kill -9 $$"),
@@ -80,7 +82,8 @@ fn the_gate_passes_by_its_status_and_its_last_line() {
 fn what_is_linked_with_a_new_library_is_linked_anew() {
     let folder = folder("linked");
     let path = format!("{}:/usr/bin:/bin", folder.display());
-    stand_in(&folder, "rt", "mkdir -p target/staticlib; cp text target/staticlib/libwsprcard.a");
+    fs::create_dir_all(folder.join("crates/wsprcard")).unwrap();
+    stand_in(&folder, "rt", "mkdir -p out; cp ../../text out/libwsprcard.a");
     stand_in(&folder, "gcc", "cp target/staticlib/libwsprcard.a build/wsprcard");
     fs::create_dir(folder.join("include")).unwrap();
     fs::write(folder.join("include/wsprcard.h"), "").unwrap();

@@ -89,12 +89,15 @@ fn answer_part(
 }
 
 // Answers the lines that newlines end, and returns the line that none does, at the end of the input.
-// Where the input can't be read, or the output not be written, it ends too, and returns the error. A
-// loop has to end, and nothing says that an input does: so the reads are counted down, from a number
-// that no run uses up. Of the streams no contract can speak, so nothing more is promised of the line.
+// Where the input can't be read, or the output not be written, it ends too, and returns that error, and
+// no other. The buffers stay as long as they were. A loop has to end, and nothing says that an input
+// does: so the reads are counted down, from a number that no run uses up. Of the streams no contract can
+// speak, so nothing more is promised of the line.
 fn answer_lines(stdin: Stdin, stdout: Stdout, input: &mut [u8], out: &mut [u8]) -> io::Result<Line>
     requires { longest_line * length input.old ≤ length out.old }
-    ensures { IfOk result (λ line. line.length ≤ most_kept) }
+    ensures line { IfOk result (λ line. line.length ≤ most_kept) }
+    ensures input_kept { length input.new ≡ length input.old }
+    ensures out_kept { length out.new ≡ length out.old }
 {
     let mut line = line::empty();
     let mut is_more = true;
