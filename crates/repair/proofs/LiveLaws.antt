@@ -27,7 +27,8 @@ use Rattle.repair.specs.declared.Nearest.{Nearest}
 use Rattle.repair.specs.declared.RepairAnswer.{RepairAnswer}
 use Rattle.repair.proofs.AnswerLaws.{number_same, repaired_searched, over_of, demanded}
 use Rattle.repair.proofs.CheckLaws.{refusal_searched}
-use Rattle.repair.proofs.FlipLaws.{received_there, sent_there, flips_disagreements, flips_repaired}
+use Rattle.repair.proofs.FlipLaws.{received_there, sent_there, flips_disagreements}
+use Rattle.repair.proofs.FlipAnswers.{flips_repaired}
 use Rattle.repair.proofs.FoundLaws.{bits_received}
 
 -- The flips are the places in which the coded bits differ from what was received.

@@ -9,7 +9,8 @@ use Rattle.repair.specs.LiveCounts.{CleanRepaired, OneFlipRepaired, NeverOverBud
 use Rattle.repair.specs.declared.RepairAnswer.{RepairAnswer}
 use Rattle.repair.proofs.AnswerLaws.{demanded}
 use Rattle.repair.proofs.CheckLaws.{checked}
-use Rattle.repair.proofs.FlipLaws.{frames_apart, flips_repaired, two_flips_repaired, four_flips_repaired, flips_refused, three_flips_refused, wrong_word_flips, never_shared, margin_limit}
+use Rattle.repair.proofs.FlipLaws.{frames_apart}
+use Rattle.repair.proofs.FlipAnswers.{flips_repaired, two_flips_repaired, four_flips_repaired, flips_refused, three_flips_refused, wrong_word_flips, never_shared, margin_limit}
 use Rattle.repair.proofs.LiveLaws.{clean_repaired, one_flip_repaired, never_over_budget}
 
 abbrev FlipsPromised : List ℕ → ℕ → ℕ → RepairAnswer → Type 0

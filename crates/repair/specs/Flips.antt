@@ -32,7 +32,7 @@ abbrev pub FramesApart : ℕ → Type 0
 FramesApart least = (sent other : ℕ) → sent < 2 ^ 50 → other < 2 ^ 50 → (sent ≡ other → ⊥) → least ≤ flips sent (frame_of other)
 
 -- The least such number: two words' frames differ in exactly so many. It is 28, of the words 0x546C3 and 0: `frames_least` of
--- proofs/FlipLaws.antt.
+-- proofs/FlipAnswers.antt.
 pub record FramesLeast (least one another : ℕ) : Type 0 where
   pub apart : FramesApart least
   pub in_50_bits : (one < 2 ^ 50) × (another < 2 ^ 50)
