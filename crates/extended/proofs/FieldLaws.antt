@@ -1,18 +1,18 @@
 -- Laws of one field: what is legal, the code of a reading and the reading of a code.
 use mathlib.Core.Path.{◌≡◌, refl, sym, ap, ◌∙◌, subst}
 use Prim.Native.Nat.{ℕ, zero, suc, ◌+◌, ◌-◌, ◌*◌, ◌/◌, ◌^◌, ◌≤◌, ◌<◌}
-use native.Mathlib.Nat.{mul-le-mul_right, mul_comm, mul_assoc, suc-mul, add-zero, mul-add-div_right, div-eq_of_lt, div-lt_iff_lt-mul}
+use native.Mathlib.Nat.{mul-le-mul_left, mul-le-mul_right, mul-one, one-mul, mul_comm, mul_assoc, suc-mul, add-zero, mul-add-div_right, div-eq_of_lt, div-lt_iff_lt-mul}
 use native.Mathlib.Numerals.{sub-one}
 use native.Mathlib.Omega.{arith}
-use mathlib.Core.Bool.{Bool, true, false, cond, ◌&&◌}
-use lib.Dec.{leb, le→leb}
-use lib.IntN.{ℤ, pos, negsuc, neg_ℤ, nat_abs, sub_ℕ, ◌+ℤ◌, ◌-ℤ◌, +ℤ_idr}
-use lib.Signed.{mag, le_z, ◌≤ℤ◌, le_z_yes, ≤ℤ_refl}
+use mathlib.Core.Bool.{true, false, true≢false, ◌&&◌}
+use lib.Dec.{leb}
+use lib.IntN.{ℤ, pos, negsuc, nat_abs, ◌+ℤ◌, ◌-ℤ◌, +ℤ_idr}
+use lib.Signed.{mag, le_z, ◌≤ℤ◌}
 use borrow.Author.Tests.{le-leb, lt-leb, leb-true, le-ltb, lt-ltb}
 use Rattle.basics.specs.Rounding.{WithinHalfStep}
 use Rattle.basics.specs.Test.{betweenℤ}
-use Rattle.basics.proofs.Choice.{both_true, cond_both, by_test, below_or_not}
-use Rattle.basics.proofs.Integers.{le_z_true, le_z_false, +ℤ-mono-≤, above, +ℤ-cancel-≤, nat_abs_above}
+use Rattle.basics.proofs.Choice.{both_true, by_test, below_or_not, between_true, between_range}
+use Rattle.basics.proofs.Integers.{le_z_true, le_z_false, above, +ℤ-cancel-≤, nat_abs_above}
 use Rattle.basics.proofs.RoundingLaws.{rounded_nearest}
 use Rattle.extended.specs.Fields.{from_zero, field_of, field_reading, highest, fits_signed32, legal_field, clamped, code_of}
 use Rattle.extended.specs.RoundTrip.{rounded}
@@ -85,6 +85,78 @@ pub legal_field_fits : (f : Field) → fits_signed32 f.lowest ≡ true
     → legal_field f ≡ (leb 1 f.step && (leb 2 f.count && leb (span f) (room f.lowest)))
 unfolding legal_field highest field_reading
 legal_field_fits f e = rw (e, fits_raised f.lowest (span f) e)
+
+-- No legal field has a longer step or more codes, and its highest reading is no further above the lowest.
+pub span_small : (f : Field) → Legal f → span f < 2 ^ 32
+span_small f l = omega (arith, l.within, room_small f.lowest l.fits)
+
+pub step_small : (f : Field) → Legal f → f.step < 2 ^ 32
+step_small f l =
+    let once : 1 * f.step ≤ span f = mul-le-mul_right f.step (omega (arith, l.two)) in
+    omega (arith, one-mul f.step, span_small f l)
+
+pub count_small : (f : Field) → Legal f → f.count ≤ 2 ^ 32
+count_small f l =
+    let once : (f.count - 1) * 1 ≤ span f = mul-le-mul_left (f.count - 1) l.positive in
+    omega (arith, mul-one (f.count - 1), span_small f l, l.two)
+
+-- Every reading fits signed 32 bits.
+pub raised_fits : (f : Field) (n : ℕ) → Legal f → n ≤ span f → fits_signed32 (f.lowest +ℤ pos n) ≡ true
+raised_fits f n l h = fits_raised f.lowest n l.fits ∙ le-leb n (room f.lowest) (omega (arith, l.within))
+
+-- ---- Whether three numbers are a legal field's
+
+not_legal : (f : Field) → (Legal f → ⊥) → legal_field f ≡ false
+not_legal f h = by_test (legal_field f) (λ e. absurd (h (legal f e))) (λ e. e)
+
+step_between : (step : ℤ) → 0 < from_zero step → from_zero step < 2 ^ 32 → betweenℤ (pos 1) (pos 4_294_967_295) step ≡ true
+unfolding from_zero
+step_between (pos n) h k = between_true 1 4_294_967_295 n h (omega arith)
+step_between (negsuc n) h k = absurd (omega arith)
+
+count_between : (count : ℤ) → 2 ≤ from_zero count → from_zero count ≤ 2 ^ 32 → betweenℤ (pos 2) (pos 4_294_967_296) count ≡ true
+unfolding from_zero
+count_between (pos n) h k = between_true 2 4_294_967_296 n h (omega arith)
+count_between (negsuc n) h k = absurd (omega arith)
+
+pub not_lowest : (lowest step count : ℤ) → betweenℤ (negsuc 2_147_483_647) (pos 2_147_483_647) lowest ≡ false → legal_field (field_of lowest step count) ≡ false
+unfolding field_of fits_signed32
+not_lowest lowest step count e = not_legal (field_of lowest step count) (λ l. true≢false (sym l.fits ∙ e))
+
+pub not_step : (lowest step count : ℤ) → betweenℤ (pos 1) (pos 4_294_967_295) step ≡ false → legal_field (field_of lowest step count) ≡ false
+unfolding field_of
+not_step lowest step count e =
+    let f = field_of lowest step count in
+    not_legal f (λ l. true≢false (sym (step_between step l.positive (step_small f l)) ∙ e))
+
+pub not_count : (lowest step count : ℤ) → betweenℤ (pos 2) (pos 4_294_967_296) count ≡ false → legal_field (field_of lowest step count) ≡ false
+unfolding field_of
+not_count lowest step count e =
+    let f = field_of lowest step count in
+    not_legal f (λ l. true≢false (sym (count_between count l.two (count_small f l)) ∙ e))
+
+-- A number that is above 0 is its own absolute value.
+pub positive_is : (z : ℤ) → 0 < from_zero z → z ≡ pos (from_zero z)
+unfolding from_zero
+positive_is (pos n) h = refl
+positive_is (negsuc n) h = absurd (omega arith)
+
+between_above : (low high : ℕ) (z : ℤ) → betweenℤ (pos low) (pos high) z ≡ true → 0 < low → low ≤ from_zero z
+unfolding from_zero
+between_above low high (pos n) e h = (between_range low high n e).0
+between_above low high (negsuc n) e h = absurd (true≢false (sym e))
+
+-- Where the three tests hold, the last is whether the highest reading fits.
+pub last_test : (lowest step count : ℤ) → betweenℤ (negsuc 2_147_483_647) (pos 2_147_483_647) lowest ≡ true
+    → betweenℤ (pos 1) (pos 4_294_967_295) step ≡ true → betweenℤ (pos 2) (pos 4_294_967_296) count ≡ true
+    → leb ((nat_abs count - 1) * nat_abs step) (room lowest) ≡ legal_field (field_of lowest step count)
+unfolding field_of fits_signed32
+last_test lowest step count low positive two =
+    let steps = between_above 1 4_294_967_295 step positive (omega arith) in
+    let counts = between_above 2 4_294_967_296 count two (omega arith) in
+    let its_step : nat_abs step ≡ from_zero step = ap nat_abs (positive_is step (omega arith)) in
+    let its_count : nat_abs count ≡ from_zero count = ap nat_abs (positive_is count (omega arith)) in
+    rw (its_step, its_count, legal_field_fits (field_of lowest step count) low, le-leb 1 (from_zero step) steps, le-leb 2 (from_zero count) counts)
 
 -- ---- Clamped readings
 

@@ -2,3 +2,7 @@
 -- `NumberLaws`: the number that holds the codes. `AnswerLaws`: the cases of the answers. `RoundTripLaws`: the round trips, and what the
 -- functions promise.
 mod FieldLaws
+mod TableLaws
+mod NumberLaws
+mod AnswerLaws
+mod RoundTripLaws

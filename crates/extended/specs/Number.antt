@@ -2,7 +2,6 @@
 use Rattle.std.specs.Prelude.{ℕ, ◌+◌, ◌*◌, ◌/◌, ◌%◌, List, [], ◌∷◌, ◌++◌, reverse, get_or}
 use Rattle.radix.specs.Numeral.{count, number_of, digits_of}
 use Rattle.u4b.specs.Characters.{lower_radices}
-use Rattle.u4b.specs.declared.channel.Channel.{Channel}
 use Rattle.u4b.specs.declared.Payload.{Payload}
 use Rattle.extended.specs.Fields.{counts}
 use Rattle.extended.specs.declared.field.Field.{Field}

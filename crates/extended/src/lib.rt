@@ -1,4 +1,6 @@
 // U4B extended telemetry: readings under a table of fields that the caller lends, to and from a message.
+#![tactic(auto)]
+
 mod field;
 mod number;
 mod table;

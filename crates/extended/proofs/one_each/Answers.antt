@@ -1,15 +1,14 @@
 -- `extended::one_each` meets its contract: the remainder and the quotient by 3 tell whether a number is three times another.
 -- Assumes nothing.
-use mathlib.Core.Path.{◌≡◌, sym}
+use mathlib.Core.Path.{◌≡◌, sym, ◌∙◌}
 use Prim.Native.Nat.{ℕ, ◌*◌, ◌/◌, ◌%◌}
 use native.Mathlib.Omega.{arith}
-use mathlib.Core.Bool.{true, false}
+use mathlib.Core.Bool.{false}
 use lib.Dec.{eqb}
-use borrow.Author.Tests.{eqb-true, eqb-false, eq-eqb, ne_eqb}
+use borrow.Author.Tests.{eq-eqb, ne_eqb}
 use Rattle.basics.proofs.Choice.{equal_or_not}
 use Rattle.extended.specs.Answer.{one_each}
-use Rattle.extended.proofs.one_each.Statement.{statement}
-use Rattle.extended.proofs.one_each.Tie as tie
+use Rattle.extended.proofs.one_each.Goals as goal
 
 by-quotient : (m n : ℕ) → m % 3 ≡ 0 → eqb (m / 3) n ≡ one_each m n
 unfolding one_each
@@ -21,12 +20,9 @@ no_remainder : (m n : ℕ) → (m % 3 ≡ 0 → ⊥) → one_each m n ≡ false
 unfolding one_each
 no_remainder m n ne = ne_eqb m (3 * n) (λ e. ne (omega arith))
 
-returns : tie.Need-returns
-returns c = by-quotient c.before.args.numbers c.before.args.readings (eqb-true _ _ c.if1.true)
+pub returns-then-numbers-eq0 : goal.returns-then-numbers-eq0
+returns-then-numbers-eq0 c = by-quotient c.args.numbers c.args.readings c.if-numbers-eq0.true
 
-returns-2 : tie.Need-returns-2
-returns-2 c =
-    rw (c.if1.false, no_remainder c.before.args.numbers c.before.args.readings (eqb-false _ _ c.if1.false))
-
-pub one-each-spec : {M : Type 1} → statement M
-one-each-spec = tie.close (tie.spec returns returns-2)
+pub returns-else-numbers-eq0 : goal.returns-else-numbers-eq0
+returns-else-numbers-eq0 c =
+    ne_eqb (c.args.numbers % 3) 0 c.if-numbers-eq0.false ∙ sym (no_remainder c.args.numbers c.args.readings c.if-numbers-eq0.false)
