@@ -10,7 +10,7 @@ use telemetry::TelemetryAnswer;
 
 // The start of a line, at most 15 bytes: one more than a line of the right length has, so that a
 // longer one is told from it. What stands in `bytes` from `length` on means nothing.
-#[derive(Drop)]
+#[derive(Clone, Copy)]
 pub(crate) struct Line {
     pub bytes: [u8; 15],
     pub length: usize,

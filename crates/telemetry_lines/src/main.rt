@@ -17,45 +17,44 @@ mod line;
 mod output;
 mod stream;
 
-ghost use Rattle.std.specs.Prelude.{◌≡◌, ◌*◌, ◌≤◌, IfOk, OnErr, length, take};
+ghost use Rattle.std.specs.Prelude.{◌≡◌, false, ◌*◌, ◌≤◌, length, take};
 ghost use Rattle.telemetry_lines.specs.Text.{longest_line};
 ghost use Rattle.telemetry_lines.specs.Buffer.{Put};
 ghost use Rattle.telemetry_lines.specs.Stream.{most_kept, line_after, output_after, held_by};
 
 use line::Line;
-use std::io;
 use std::io::{Read, Stdin, Stdout, Write};
 
-// How many bytes a read gave (none at the input's end, or where it failed), and its error, if it failed.
-#[derive(Drop)]
+// How many bytes a read gave (none at the input's end, or where it failed), and whether they were read.
+#[derive(Clone, Copy)]
 struct Got {
     count: usize,
-    outcome: io::Result<()>,
+    is_good: bool,
 }
 
 // What a read gave: the line that is then begun, how many bytes of the input there were (none at its
-// end), where their output ends in the buffer, and the error, if they weren't read or it isn't written.
-#[derive(Drop)]
+// end), where their output ends in the buffer, and whether they were read and it is written.
+#[derive(Clone, Copy)]
 struct Part {
     line: Line,
     count: usize,
     end: usize,
-    outcome: io::Result<()>,
+    is_good: bool,
 }
 
 // Reads once, to the start of `input`.
 fn read_once(mut stdin: Stdin, input: &mut [u8]) -> Got
     ensures in_bounds { result.count ≤ length input.new }
-    ensures failed { OnErr result.outcome (result.count ≡ 0) }
+    ensures failed { result.is_good ≡ false → result.count ≡ 0 }
 {
     match stdin.read(input) {
         Ok(count) => Got {
             count,
-            outcome: Ok(()),
+            is_good: true,
         },
-        Err(error) => Got {
+        Err(_) => Got {
             count: 0,
-            outcome: Err(error),
+            is_good: false,
         },
     }
 }
@@ -79,49 +78,51 @@ fn answer_part(
     let answered = stream::answer(line, &input[..count], out);
     let begun = answered.line;
     let end = answered.end;
-    let written = stdout.write_all(&out[..end]);
+    let is_written = stdout.write_all(&out[..end]).is_ok();
     Part {
         line: begun,
         count,
         end,
-        outcome: got.outcome.and(written),
+        is_good: got.is_good && is_written,
     }
 }
 
 // Answers the lines that newlines end, and returns the line that none does, at the end of the input.
-// Where the input can't be read, or the output not be written, it ends too, and returns that error, and
-// no other. The buffers stay as long as they were. A loop has to end, and nothing says that an input
-// does: so the reads are counted down, from a number that no run uses up. Of the streams no contract can
-// speak, so nothing more is promised of the line.
-fn answer_lines(stdin: Stdin, stdout: Stdout, input: &mut [u8], out: &mut [u8]) -> io::Result<Line>
+// Where the input can't be read, or the output not be written, it ends too, and returns no line: what
+// was read of it may be a part only. A loop has to end, and nothing says that an input does: so the
+// reads are counted down, from a number that no run uses up. Of the streams no contract can speak, so
+// nothing more is promised of the line.
+fn answer_lines(stdin: Stdin, stdout: Stdout, input: &mut [u8], out: &mut [u8]) -> Line
     requires { longest_line * length input.old ≤ length out.old }
-    ensures line { IfOk result (λ line. line.length ≤ most_kept) }
-    ensures input_kept { length input.new ≡ length input.old }
-    ensures out_kept { length out.new ≡ length out.old }
+    ensures { result.length ≤ most_kept }
 {
     let mut line = line::empty();
     let mut is_more = true;
     let mut reads = u64::MAX;
     while is_more && 0 < reads {
         let part = answer_part(stdin, stdout, line, input, out);
-        part.outcome?;
+        if !part.is_good {
+            return line::empty();
+        }
         let begun = part.line;
         line = begun;
         is_more = 0 < part.count;
         reads -= 1;
     }
-    Ok(line)
+    line
 }
 
 // A line of output has at most 62 bytes, and a byte of input ends at most one line: so the output for
 // 1,024 bytes has room in 65,536.
-fn main(rt: HostRuntime) -> io::Result<()> {
+fn main(rt: HostRuntime) {
     let mut input = [0u8; 1024];
     let mut out = [0u8; 65536];
     let mut stdout = rt.stdout();
     let start = output::put_header(&mut out);
-    stdout.write_all(&out[..start])?;
-    let line = answer_lines(rt.stdin(), stdout, &mut input, &mut out)?;
+    if stdout.write_all(&out[..start]).is_err() {
+        return;
+    }
+    let line = answer_lines(rt.stdin(), stdout, &mut input, &mut out);
     let end = stream::answer_last(line, &mut out);
-    stdout.write_all(&out[..end])
+    let _written = stdout.write_all(&out[..end]);
 }

@@ -12,7 +12,7 @@ use super::output::put_answer;
 const NEWLINE: u8 = b'\n';
 
 // The line that is then begun, and where the output ends.
-#[derive(Drop)]
+#[derive(Clone, Copy)]
 pub(crate) struct Answered {
     pub line: Line,
     pub end: usize,
