@@ -113,11 +113,14 @@ fn print_vectors<W: Write>(out: &mut W, text: &[u8]) -> io::Result<()> {
     Ok(())
 }
 
-// The text has room for 65,536 bytes; of a longer input it takes the start.
+// The text has room for 65,536 bytes; of a longer input it takes the start. Of one that can't be read to
+// its end, what was read is answered.
 fn main(rt: HostRuntime) -> io::Result<()> {
     let mut text = Vec::new(rt.alloc());
-    rt.reader().take(65_536).read_to_end(&mut text)?;
+    let read = rt.reader().take(65_536).read_to_end(&mut text);
     let mut out = BufWriter::new(rt.alloc(), io::writer(&rt))?;
     print_vectors(&mut out, &text)?;
-    out.flush()
+    out.flush()?;
+    read?;
+    Ok(())
 }
