@@ -11,9 +11,10 @@ const DOCUMENTS: [&str; 3] = ["README.md", "docs/GUARANTEES.md", "docs/DECISIONS
 const SOURCES: [&str; 5] = ["crates", "host", "include", "tests", "bench"];
 
 /// Of the languages, the toolchain and the C library, and of the documents' own example of a clause.
-const FOREIGN: [&str; 19] = [
+const FOREIGN: [&str; 23] = [
     "i32", "requires", "ensures", "match", "while", "len", "use", "pub", "memcpy", "memset", "rt",
-    "lib", "mathlib", "check", "std", "f", "clause", "specs", "proofs",
+    "lib", "mathlib", "check", "std", "f", "clause", "specs", "proofs", "Result", "Option",
+    "arrayvec", "itoa",
 ];
 
 fn root() -> PathBuf {

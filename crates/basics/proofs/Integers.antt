@@ -1,10 +1,10 @@
 -- Laws of integers: their order, that of sums, and what a number is above another.
 use mathlib.Core.Path.{◌≡◌, refl, sym, ap, ◌∙◌, subst}
 use mathlib.Core.Bool.{true, false, true≢false}
-use Prim.Native.Nat.{ℕ, zero, suc, ◌+◌, ◌-◌, ◌*◌, ◌≤◌, ◌<◌}
+use Prim.Native.Nat.{ℕ, zero, suc, ◌+◌, ◌-◌, ◌≤◌, ◌<◌}
 use native.Mathlib.Omega.{arith}
 use lib.Dec.{T, le→leb, lt→ltb, leb→le}
-use lib.IntN.{ℤ, pos, negsuc, neg_ℤ, nat_abs, suc_ℤ, sub_ℕ, ◌+ℤ◌, ◌-ℤ◌, ◌*ℤ◌, +ℤ_assoc, +ℤ_comm, +ℤ_invr, +ℤ_idl, +ℤ-suc_ℤ, neg_ℤ-+ℤ, -ℤ-+ℤ_cancel}
+use lib.IntN.{ℤ, pos, negsuc, neg_ℤ, nat_abs, suc_ℤ, sub_ℕ, ◌+ℤ◌, ◌-ℤ◌, +ℤ_assoc, +ℤ_comm, +ℤ_invr, +ℤ_idl, +ℤ-suc_ℤ, neg_ℤ-+ℤ, -ℤ-+ℤ_cancel}
 use lib.Signed.{le_z, non_neg, ◌≤ℤ◌, ◌<ℤ◌, le_z_yes, lt_z_yes, clash_ℤ, pos-nat_abs}
 use borrow.Author.Tests.{leb-false, le-ltb, lt-ltb}
 use Rattle.basics.proofs.Choice.{below_or_not}

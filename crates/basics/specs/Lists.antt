@@ -1,6 +1,6 @@
 -- Lists by their places: a list by a rule, the first place where a test fails, the first test that is false, the index of a number, and
 -- whether two lists are the same.
-use Rattle.std.specs.Prelude.{ℕ, zero, suc, Bool, true, false, cond, not, ◌&&◌, List, [], ◌∷◌, eqb}
+use Rattle.std.specs.Prelude.{ℕ, zero, suc, Bool, true, false, cond, not, ◌&&◌, List, [], ◌∷◌, eqb, ltb, Option}
 
 -- f 0, f 1 and so on, n of them.
 unfoldable pub tabulate : ℕ → (ℕ → ℕ) → List ℕ
@@ -11,6 +11,10 @@ tabulate (suc n) f = f zero ∷ tabulate n (λ i. f (suc i))
 unfoldable pub first_failing : {A : Type 0} → (ℕ → A → Bool) → ℕ → List A → ℕ
 first_failing test place [] = place
 first_failing test place (x ∷ xs) = cond (test place x) (first_failing test (suc place) xs) place
+
+-- A place, where it is below the end; none where it isn't: what a search gives that may find nothing.
+unfoldable pub some_below : ℕ → ℕ → Option ℕ
+some_below end place = cond (ltb place end) (Option.Some place) Option.None
 
 -- A test, as a test of an element of a list.
 abbrev pub is_true : ℕ → Bool → Bool

@@ -1,14 +1,12 @@
 -- One turn of the loops of `encode` and `decode`, over lists.
-use mathlib.Core.Path.{◌≡◌, refl, ◌∙◌, subst}
-use Prim.Native.Nat.{ℕ, suc, ◌+◌, ◌-◌, ◌*◌, ◌^◌, ◌≤◌, ◌<◌}
-use native.Mathlib.Nat.{pow-suc}
+use mathlib.Core.Path.{◌≡◌, refl, ap, ◌∙◌, subst}
+use Prim.Native.Nat.{ℕ, zero, suc, ◌+◌, ◌-◌, ◌*◌, ◌^◌, ◌≤◌, ◌<◌}
+use native.Mathlib.Nat.{lt_of_lt_of_le, pow-suc}
 use native.Mathlib.Numerals.{add-one}
 use native.Mathlib.Omega.{arith}
-use mathlib.Core.List.{List}
-use lib.ListN.{get_or, drop, set, replicate}
-use lib.Seq.{drop-drop}
+use mathlib.Core.List.{List, [], ◌∷◌, ◌++◌}
+use lib.ListN.{length, get_or, set, replicate}
 use lib.Pow.{pow_mono}
-use Rattle.basics.proofs.ListLaws.{head_at}
 use Rattle.basics.proofs.Filling.{Filling, fill_starts, fill_turn, fill_ends}
 use Rattle.radix.specs.Numeral.{number_from, number_of}
 use Rattle.convolution.specs.Code.{clocked_bits, clocked, first_mask, second_mask, parity, coded_bits}
@@ -49,35 +47,45 @@ encoding_ends word coded register step h now =
 
 -- ---- decode
 
--- Before a turn: the word so far, and the bits from here on, make the word.
-pub record Decoding (coded : List ℕ) (word register step : ℕ) : Type 0 where
-  pub word_below : word < 2 ^ step
-  pub rest : number_from word (replicate (50 - step) 2) (decoded_from (50 - step) register (drop (2 * step) coded)) ≡ decoded_word coded
+-- Before a turn: the word so far, and the bits that are left to find in the coded bits that are left, make the word.
+pub record Decoding (coded : List ℕ) (word register left : ℕ) (coded_left : List ℕ) : Type 0 where
+  pub within : left ≤ 50
+  pub room : 2 * left ≤ length coded_left
+  pub word_below : word < 2 ^ (50 - left)
+  pub whole : number_from word (replicate left 2) (decoded_from left register coded_left) ≡ decoded_word coded
 
-pub decoding_starts : (coded : List ℕ) → Decoding coded 0 0 0
+pub decoding_starts : (coded : List ℕ) → length coded ≡ 162 → Decoding coded 0 0 50 coded
 unfolding decoded_word number_of
-decoding_starts coded = record { word_below = omega arith; rest = refl }
+decoding_starts coded e = record { within = omega arith; room = omega arith; word_below = omega arith; whole = refl }
 
-pub decoding_fits : (coded : List ℕ) (word register step bit : ℕ) → step < 50 → Decoding coded word register step → bit < 2
-    → word * 2 + bit < 2 ^ 50
-decoding_fits coded word register step bit h now below =
-    let room : 2 ^ step ≤ 2 ^ 49 = pow_mono {i = step} {j = 49} (omega arith) in
-    omega (arith, now.word_below)
+module _ {coded : List ℕ} {word register before : ℕ} {coded_left : List ℕ} (left : ℕ) (one : left + 1 ≡ before)
+    (now : Decoding coded word register before coded_left) where
+  -- The word with one bit more.
+  grown : (bit : ℕ) → bit < 2 → word * 2 + bit < 2 ^ (50 - left)
+  grown bit below =
+      let next : 50 - left ≡ suc (50 - before) = omega (arith, now.within) in
+      rw (next, pow-suc 2 (50 - before)) (omega (arith, now.word_below))
 
-pub decoding_turn : (coded : List ℕ) (word register step bit next : ℕ) → step < 50 → Decoding coded word register step
-    → bit ≡ next_bit register (get_or coded (2 * step) 0) → next ≡ clocked register bit → Decoding coded (word * 2 + bit) next (step + 1)
-unfolding number_from decoded_from
-decoding_turn coded word register step bit next h now e e₂ =
-    let below : bit < 2 = rw e (next_bit_below register (get_or coded (2 * step) 0)) in
-    let left : 50 - step ≡ suc (50 - (step + 1)) = omega arith in
-    let twice : 2 * (step + 1) ≡ 2 * step + 2 = omega arith in
-    record {
-      word_below = rw (add-one step, pow-suc 2 step) (omega (arith, now.word_below));
-      rest = rw (twice, ← drop-drop 2 (2 * step) coded, e₂, e) (rw (left, head_at (2 * step) coded) at now.rest);
-    }
+  pub decoding_fits : (bit : ℕ) → bit < 2 → word * 2 + bit < 2 ^ 50
+  decoding_fits bit below = lt_of_lt_of_le (grown bit below) (pow_mono {i = 50 - left} {j = 50} (omega arith))
 
-pub decoding_ends : (coded : List ℕ) (word register step : ℕ) → 50 ≤ step → Decoding coded word register step → word ≡ decoded_word coded
+  pub decoding_turn : (pair later : List ℕ) → coded_left ≡ pair ++ later → length pair ≡ 2 → (bit next : ℕ)
+      → bit ≡ next_bit register (get_or pair 0 0) → next ≡ clocked register bit → Decoding coded (word * 2 + bit) next left later
+  unfolding number_from decoded_from
+  decoding_turn [] later e two bit next e₁ e₂ = absurd (omega arith)
+  decoding_turn (first ∷ []) later e two bit next e₁ e₂ = absurd (omega arith)
+  decoding_turn (first ∷ second ∷ []) later e two bit next e₁ e₂ =
+      record {
+        within = omega (arith, now.within);
+        room = omega (arith, now.room, ap length e);
+        word_below = grown bit (rw e₁ (next_bit_below register first));
+        whole = rw (e₂, e₁) (rw (← one, add-one, e) at now.whole);
+      }
+  decoding_turn (first ∷ second ∷ third ∷ pair) later e two bit next e₁ e₂ = absurd (omega arith)
+
+-- The coded bits don't run out before the word is found.
+pub decoding_ends : (coded : List ℕ) (word register left : ℕ) (coded_left : List ℕ) → (0 < left → length coded_left < 2)
+    → Decoding coded word register left coded_left → word ≡ decoded_word coded
 unfolding number_from
-decoding_ends coded word register step h now =
-    let over : 50 - step ≡ 0 = omega arith in
-    rw over at now.rest
+decoding_ends coded word register zero coded_left over now = now.whole
+decoding_ends coded word register (suc left) coded_left over now = absurd (omega (arith, over (omega arith), now.room))

@@ -4,10 +4,16 @@ use Prim.Native.Nat.{ℕ, zero, suc, ◌+◌, ◌-◌, ◌*◌, ◌/◌, ◌^◌
 use native.Mathlib.Nat.{mul-le-mul_left, mul-le-mul_right, mul-one, one-mul, mul_comm, mul_assoc, suc-mul, add-zero, mul-add-div_right, div-eq_of_lt, div-lt_iff_lt-mul}
 use native.Mathlib.Numerals.{sub-one}
 use native.Mathlib.Omega.{arith}
-use mathlib.Core.Bool.{true, false, true≢false, ◌&&◌}
-use lib.Dec.{leb}
+use mathlib.Core.Bool.{Bool, true, false, true≢false, cond, ◌&&◌}
+use lib.Dec.{T, leb}
 use lib.IntN.{ℤ, pos, negsuc, nat_abs, ◌+ℤ◌, ◌-ℤ◌, +ℤ_idr}
-use lib.Signed.{mag, le_z, ◌≤ℤ◌}
+use lib.Signed.{mag, non_neg, le_z, lt_z, ◌≤ℤ◌}
+use mir.Facts.{to_z-of_z}
+use mir.Syntax.{w64}
+use mir.Val.{SFits, to_z, of_z}
+use Rattle.std.specs.Int.{int_max, int_min}
+use Rattle.std.proofs.Common.{is_le, Less, Greater, Equal}
+use Rattle.std.proofs.lemmas.Int.{ints}
 use borrow.Author.Tests.{le-leb, lt-leb, leb-true, le-ltb, lt-ltb}
 use Rattle.basics.specs.Rounding.{WithinHalfStep}
 use Rattle.basics.specs.Test.{betweenℤ}
@@ -17,6 +23,21 @@ use Rattle.basics.proofs.RoundingLaws.{rounded_nearest}
 use Rattle.extended.specs.Fields.{from_zero, field_of, field_reading, highest, fits_signed32, legal_field, clamped, code_of}
 use Rattle.extended.specs.RoundTrip.{rounded}
 use Rattle.extended.specs.declared.field.Field.{Field}
+
+-- ---- What the library's tests and its clamp say
+
+le_by_order : (a b : ℤ) → is_le (cond (lt_z a b) Less (cond (lt_z b a) Greater Equal)) ≡ le_z a b
+le_by_order a b = grind (arith, ints)
+
+-- `contains` of a range with both its ends.
+pub range_tells : (low high x : ℤ) (r : Bool) → SFits w64 x
+    → r ≡ (is_le (cond (lt_z low (to_z w64 (of_z w64 x))) Less (cond (lt_z (to_z w64 (of_z w64 x)) low) Greater Equal))
+    && is_le (cond (lt_z (to_z w64 (of_z w64 x)) high) Less (cond (lt_z high (to_z w64 (of_z w64 x))) Greater Equal)))
+    → r ≡ betweenℤ low high x
+range_tells low high x r fits e = rw (to_z-of_z fits, le_by_order low x, le_by_order x high) at e
+
+pub clamp_is : (low high x : ℤ) → low ≤ℤ high → int_max low (int_min x high) ≡ cond (le_z x low) low (cond (le_z high x) high x)
+clamp_is low high x h = grind (arith, ints)
 
 -- ---- Signed 32 bits
 
@@ -100,9 +121,54 @@ count_small f l =
     let once : (f.count - 1) * 1 ≤ span f = mul-le-mul_left (f.count - 1) l.positive in
     omega (arith, mul-one (f.count - 1), span_small f l, l.two)
 
--- Every reading fits signed 32 bits.
-pub raised_fits : (f : Field) (n : ℕ) → Legal f → n ≤ span f → fits_signed32 (f.lowest +ℤ pos n) ≡ true
-raised_fits f n l h = fits_raised f.lowest n l.fits ∙ le-leb n (room f.lowest) (omega (arith, l.within))
+-- Every reading fits.
+pub lowest_fits : (f : Field) → Legal f → SFits w64 f.lowest
+lowest_fits f l = record { sfits = omega (arith, fits_small f.lowest l.fits) }
+
+pub raised_fits : (f : Field) (n : ℕ) → Legal f → n ≤ span f → SFits w64 (f.lowest +ℤ pos n)
+raised_fits f n l h =
+    let high : fits_signed32 (f.lowest +ℤ pos n) ≡ true = fits_raised f.lowest n l.fits ∙ le-leb n (room f.lowest) (omega (arith, l.within)) in
+    record { sfits = omega (arith, fits_small (f.lowest +ℤ pos n) high) }
+
+-- A code's reading is no further above the lowest than the highest is.
+pub code_within : (f : Field) (code : ℕ) → code < f.count → code * f.step ≤ span f
+code_within f code h = mul-le-mul_right f.step (omega arith)
+
+-- ---- The three numbers of a legal field
+
+-- The machine takes them as they are.
+pub record Three (lowest step count : ℤ) : Type 0 where
+  pub lowest_fits : SFits w64 lowest
+  pub step_fits : SFits w64 step
+  pub count_fits : SFits w64 count
+  pub step_positive : T (non_neg step)
+  pub count_positive : T (non_neg count)
+  pub step_small : nat_abs step < 2 ^ 32
+  pub count_small : nat_abs count ≤ 2 ^ 32
+  pub is : ◌≡◌ {A = Field} (record { lowest = lowest; step = nat_abs step; count = nat_abs count }) (field_of lowest step count)
+
+positive_fits : (z : ℤ) → 0 < from_zero z → from_zero z ≤ 2 ^ 32 → SFits w64 z × (T (non_neg z) × (nat_abs z ≡ from_zero z))
+unfolding from_zero
+positive_fits (pos n) h k = (record { sfits = omega arith }, (tt, refl))
+positive_fits (negsuc n) h k = absurd (omega arith)
+
+pub three : (lowest step count : ℤ) → legal_field (field_of lowest step count) ≡ true → Three lowest step count
+unfolding field_of
+three lowest step count e =
+    let f = field_of lowest step count in
+    let l = legal f e in
+    let steps = positive_fits step l.positive (omega (arith, step_small f l)) in
+    let counts = positive_fits count (omega (arith, l.two)) (count_small f l) in
+    record {
+      lowest_fits = record { sfits = omega (arith, fits_small lowest l.fits) };
+      step_fits = steps.0;
+      count_fits = counts.0;
+      step_positive = steps.1.0;
+      count_positive = counts.1.0;
+      step_small = omega (arith, steps.1.1, step_small f l);
+      count_small = omega (arith, counts.1.1, count_small f l);
+      is = rw (steps.1.1, counts.1.1);
+    }
 
 -- ---- Whether three numbers are a legal field's
 

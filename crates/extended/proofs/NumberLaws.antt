@@ -1,11 +1,11 @@
 -- Laws of the number that holds the codes, the slot and the type: it fits a message's two numbers, and they hold what was packed.
 use mathlib.Core.Path.{◌≡◌, refl, sym, ap, ◌∙◌}
-use Prim.Native.Nat.{ℕ, zero, suc, ◌+◌, ◌*◌, ◌/◌, ◌%◌, ◌≤◌, ◌<◌}
+use Prim.Native.Nat.{ℕ, ◌+◌, ◌*◌, ◌/◌, ◌%◌, ◌≤◌, ◌<◌}
 use native.Mathlib.Nat.{mul_comm, div-div-eq-div-mul}
 use native.Mathlib.Omega.{arith}
 use mathlib.Core.Bool.{true}
-use mathlib.Core.List.{List, [], ◌∷◌, ◌++◌, reverse}
-use lib.ListN.{length, get_or, take}
+use mathlib.Core.List.{List, [], ◌∷◌, reverse}
+use lib.ListN.{get_or}
 use borrow.Author.Tests.{leb-true}
 use Rattle.basics.proofs.Choice.{both_true}
 use Rattle.basics.proofs.ListLaws.{reverse_reverse}
@@ -19,22 +19,6 @@ use Rattle.extended.specs.Answer.{legal_slot_and_type}
 use Rattle.extended.specs.declared.field.Field.{Field}
 use Rattle.extended.specs.declared.Header.{Header}
 use Rattle.extended.proofs.TableLaws.{counts_positive, digit_at}
-
--- ---- The front of a list
-
-pub front_length : (n : ℕ) (xs : List ℕ) → n ≤ length xs → length (take n xs) ≡ n
-front_length zero xs h = refl
-front_length (suc n) [] h = absurd (omega arith)
-front_length (suc n) (x ∷ xs) h = ap suc (front_length n xs (omega arith))
-
-pub front_is : (n : ℕ) (xs zs : List ℕ) → length xs ≡ n → take n (xs ++ zs) ≡ xs
-front_is zero [] zs e = refl
-front_is zero (x ∷ xs) zs e = absurd (omega arith)
-front_is (suc n) [] zs e = absurd (omega arith)
-front_is (suc n) (x ∷ xs) zs e = ap (λ (l : List ℕ). x ∷ l) (front_is n xs zs (omega arith))
-
-pub front_same : (n : ℕ) (xs zs target : List ℕ) → xs ≡ target → length target ≡ n → take n (xs ++ zs) ≡ target
-front_same n xs zs target e h = rw e (front_is n target zs h)
 
 -- ---- The radices
 

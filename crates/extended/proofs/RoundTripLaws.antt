@@ -17,12 +17,13 @@ use Rattle.radix.proofs.Laws.{digits_length}
 use Rattle.message.specs.Character.{capital_form}
 use Rattle.message.specs.Answer.{content_after, message_numbers}
 use Rattle.message.specs.RoundTrip.{WrittenInCapitals}
-use Rattle.message.specs.declared.MessageAnswer.{MessageAnswer}
+use Rattle.std.specs.Prelude.{Result, Ok, Err}
+use Rattle.refusal.specs.declared.Refusal.{Refusal}
+use Rattle.refusal.specs.Refusals.{Refused}
 use Rattle.u4b.specs.Characters.{upper_radices, lower_radices}
 use Rattle.u4b.specs.Answer.{payload_read}
 use Rattle.u4b.specs.RoundTrip.{written_part, PayloadWritesAs}
 use Rattle.u4b.specs.declared.Payload.{Payload}
-use Rattle.u4b.specs.declared.PayloadAnswer.{PayloadAnswer}
 use Rattle.u4b.proofs.CallsignLaws.{upper_count}
 use Rattle.u4b.proofs.LocatorLaws.{lower_count}
 use Rattle.u4b.proofs.AnswerLaws as U4bAnswers
@@ -32,10 +33,9 @@ use Rattle.telemetry.proofs.AnswerLaws as Telemetry
 use Rattle.extended.specs.Fields.{fields_of, field_reading, legal_fields, legal_table, code_of, counts, count_of, codes_of, field_readings}
 use Rattle.extended.specs.Number.{extended_payload, payload_number, slot_in, kind_in, telemetry_type_in, header_in, codes_in}
 use Rattle.extended.specs.Answer.{extended_first, one_each, legal_slot_and_type, extended_message, extended_callsign, extended_locator, extended_written, callsign_after_extended, locator_after_extended, payload_extended, extended_read, readings_in, readings_after, readings_after_read, extended_numbers}
-use Rattle.extended.specs.RoundTrip.{rounded, rounded_readings, ReadsAs, ExtendedReadsBack, EachNearest, ExtendedNearest, CodesWriteAs, CodesNeverShared, ExtendedWritesAs, ExtendedWritesBack, ExtendedRefused, NeverExtended, ExtendedRefusedExactly, OneKind}
+use Rattle.extended.specs.RoundTrip.{rounded, rounded_readings, ReadsAs, ExtendedReadsBack, EachNearest, ExtendedNearest, CodesWriteAs, CodesNeverShared, ExtendedWritesAs, ExtendedWritesBack, NeverExtended, ExtendedRefusedExactly, OneKind}
 use Rattle.extended.specs.declared.field.Field.{Field}
 use Rattle.extended.specs.declared.Header.{Header}
-use Rattle.extended.specs.declared.ExtendedAnswer.{ExtendedAnswer}
 use Rattle.extended.proofs.FieldLaws.{legal, code_of_reading, rounded_within}
 use Rattle.extended.proofs.TableLaws.{legal_of_table, fields_length, counts_length, codes_below}
 use Rattle.extended.proofs.NumberLaws.{number_small, packed_number, packed_upper, packed_lower, slot_below, kind_below, codes_in_range, type_back, reserved_back, codes_back, left_back, header_back, payload_again, type_is_bit}
@@ -77,37 +77,37 @@ each_nearest (f ∷ fs) (x ∷ readings) e same =
 rounded_length : (fs : List Field) (readings : List ℤ) → length readings ≡ length fs → length (rounded_readings fs readings) ≡ length fs
 rounded_length fs readings same = length_zip_with rounded fs readings same
 
-same_payload : (p q : Payload) → PayloadAnswer.Payload p ≡ PayloadAnswer.Payload q → p ≡ q
+same_payload : (p q : Payload) → ◌≡◌ {A = Result Payload Refusal} (Ok p) (Ok q) → p ≡ q
 same_payload p q e = cc
 
 -- ---- What codes write reads back
 
 module _ (h : Header) (fs : List Field) (codes : List ℕ) (t : legal_table fs ≡ true) (its_header : legal_slot_and_type h ≡ true) (its_codes : Digits (counts fs) codes) where
-  packed_extended : payload_extended fs (extended_payload h fs codes) ≡ ExtendedAnswer.Extended h
+  packed_extended : payload_extended fs (extended_payload h fs codes) ≡ Ok h
   packed_extended =
       let p = extended_payload h fs codes in
       let number = packed_number h fs codes in
       payload_header fs p (rw number (type_back h fs codes its_header its_codes)) t (rw number (reserved_back h fs codes its_header its_codes))
       (rw number (left_back h fs codes its_header its_codes (legal_of_table fs t).each))
-      ∙ ap ExtendedAnswer.Extended (header_back h fs codes its_header its_codes)
+      ∙ ap Ok (header_back h fs codes its_header its_codes)
 
   codes_packed : codes_in fs (payload_number (extended_payload h fs codes)) ≡ codes
   codes_packed = rw (packed_number h fs codes) (codes_back h fs codes its_header its_codes)
 
   -- The message of the codes is read as their payload.
   packed_read : (callsign locator : List ℕ) (power : ℕ) → PayloadWritesAs extended_first (extended_payload h fs codes) callsign locator power
-      → payload_read extended_first callsign locator power ≡ PayloadAnswer.Payload (extended_payload h fs codes)
+      → payload_read extended_first callsign locator power ≡ Ok (extended_payload h fs codes)
   packed_read callsign locator power w =
       let p = extended_payload h fs codes in
       let small = number_small h fs codes its_header its_codes (legal_of_table fs t).product in
       let back = U4b.read_write extended_first p power w.its_power in
       (rw (w.its_callsign, w.its_locator) at back)
-      ∙ ap PayloadAnswer.Payload (U4b.whole p (packed_upper h fs codes small) (packed_lower h fs codes))
+      ∙ ap Ok (U4b.whole p (packed_upper h fs codes small) (packed_lower h fs codes))
 
 -- ---- What was written reads back
 
 module _ (h : Header) (numbers readings : List ℤ) (power : ℕ) (each : one_each (length numbers) (length readings) ≡ true)
-    (e : extended_message h (fields_of numbers) readings ≡ MessageAnswer.Power power) where
+    (e : extended_message h (fields_of numbers) readings ≡ Ok power) where
   same_length : length readings ≡ length (fields_of numbers)
   same_length = readings_each numbers (length readings) each
 
@@ -116,7 +116,7 @@ module _ (h : Header) (numbers readings : List ℤ) (power : ℕ) (each : one_ea
       codes_below (fields_of numbers) readings (legal_of_table (fields_of numbers) (writable h (fields_of numbers) readings power e).legal).each same_length
 
   written_payload : payload_read extended_first (extended_callsign h (fields_of numbers) readings) (extended_locator h (fields_of numbers) readings) power
-      ≡ PayloadAnswer.Payload (extended_payload h (fields_of numbers) (codes_of (fields_of numbers) readings))
+      ≡ Ok (extended_payload h (fields_of numbers) (codes_of (fields_of numbers) readings))
   unfolding extended_callsign extended_locator
   written_payload =
       let w = writable h (fields_of numbers) readings power e in
@@ -158,7 +158,7 @@ module _ (h : Header) (numbers readings : List ℤ) (power : ℕ) (each : one_ea
   never_shared other codes w =
       let own = writable h (fields_of numbers) readings power e in
       let fs = fields_of numbers in
-      let one : PayloadAnswer.Payload (extended_payload other fs codes) ≡ PayloadAnswer.Payload (extended_payload h fs (codes_of fs readings)) =
+      let one : Ok (extended_payload other fs codes) ≡ Ok (extended_payload h fs (codes_of fs readings)) =
       sym (packed_read other fs codes own.legal w.its_header w.its_codes _ _ power w.its_message) ∙ written_payload in
       let same = same_payload _ _ one in (
         sym (header_back other fs codes w.its_header w.its_codes) ∙ ap header_in same ∙ header_back h fs (codes_of fs readings) own.its_header its_codes,
@@ -187,12 +187,12 @@ written_small p e =
     let lower_is : p.lower % 615_600 ≡ p.lower = rw lower_count at lower in
     (omega arith, omega arith)
 
-pub payload_small : (callsign locator : List ℕ) (power : ℕ) (p : Payload) → payload_read extended_first callsign locator power ≡ PayloadAnswer.Payload p
+pub payload_small : (callsign locator : List ℕ) (power : ℕ) (p : Payload) → payload_read extended_first callsign locator power ≡ Ok p
     → (p.upper < 632_736) × (p.lower < 615_600)
 payload_small callsign locator power p e =
     let w = U4b.write_read extended_first callsign locator power p e in
     let back = U4b.read_write extended_first p power w.its_power in
-    let again : payload_read extended_first (capital_form callsign) (capital_form locator) power ≡ PayloadAnswer.Payload (written_part p) =
+    let again : payload_read extended_first (capital_form callsign) (capital_form locator) power ≡ Ok (written_part p) =
     rw (w.its_callsign, w.its_locator) at back in
     written_small p (same_payload _ _ (sym again ∙ U4bAnswers.read_capitals extended_first callsign locator power ∙ e))
 
@@ -208,7 +208,7 @@ unfolding header_in
 first_of_header p = refl
 
 readings_in_length : (callsign locator : List ℕ) (power : ℕ) (numbers : List ℤ) (p : Payload) → legal_table (fields_of numbers) ≡ true
-    → payload_read extended_first callsign locator power ≡ PayloadAnswer.Payload p → length (readings_in callsign locator power numbers) ≡ length (fields_of numbers)
+    → payload_read extended_first callsign locator power ≡ Ok p → length (readings_in callsign locator power numbers) ≡ length (fields_of numbers)
 readings_in_length callsign locator power numbers p t e =
     let fs = fields_of numbers in
     let codes = codes_in fs (payload_number p) in
@@ -217,7 +217,7 @@ readings_in_length callsign locator power numbers p t e =
     (digits_length (counts fs) codes (codes_in_range fs (payload_number p) (legal_of_table fs t).each) ∙ counts_length fs))
 
 payload_writes : (callsign locator : List ℕ) (power : ℕ) (numbers : List ℤ) (lent : ℕ) (h : Header) (p : Payload) → one_each (length numbers) lent ≡ true
-    → payload_read extended_first callsign locator power ≡ PayloadAnswer.Payload p → HoldsExtended (fields_of numbers) p h
+    → payload_read extended_first callsign locator power ≡ Ok p → HoldsExtended (fields_of numbers) p h
     → ExtendedWritesAs h numbers (readings_in callsign locator power numbers) (capital_form callsign) (capital_form locator) power
 unfolding extended_callsign extended_locator
 payload_writes callsign locator power numbers lent h p one payload holds =
@@ -243,7 +243,7 @@ payload_writes callsign locator power numbers lent h p one payload holds =
     }
 
 pub write_read : (callsign locator : List ℕ) (power : ℕ) (numbers : List ℤ) (lent : ℕ) (h : Header)
-    → extended_read callsign locator power numbers lent ≡ ExtendedAnswer.Extended h
+    → extended_read callsign locator power numbers lent ≡ Ok h
     → ExtendedWritesAs h numbers (readings_in callsign locator power numbers) (capital_form callsign) (capital_form locator) power
 write_read callsign locator power numbers lent h e =
     let r = reads_extended callsign locator power numbers lent h e in
@@ -256,24 +256,24 @@ pub refuses_exactly : (callsign locator : List ℕ) (power : ℕ) (numbers : Lis
 refuses_exactly callsign locator power numbers lent =
     (λ refused h readings same w. never refused h readings same w, λ never_written. exact (extended_read callsign locator power numbers lent) refl never_written)
   where
-    never : ExtendedRefused (extended_read callsign locator power numbers lent)
+    never : Refused (extended_read callsign locator power numbers lent)
         → NeverExtended numbers lent (capital_form callsign) (capital_form locator) power
     never refused h readings same w =
         let back = read_write h numbers readings power w.its_lengths w.its_power in
         let its_length = rounded_length (fields_of numbers) readings (readings_each numbers (length readings) w.its_lengths)
         ∙ sym (readings_each numbers (length readings) w.its_lengths) ∙ same in
-        let header : extended_read (capital_form callsign) (capital_form locator) power numbers lent ≡ ExtendedAnswer.Extended h =
+        let header : extended_read (capital_form callsign) (capital_form locator) power numbers lent ≡ Ok h =
         rw (w.its_callsign, w.its_locator, its_length) at back.its_header in
         rw (sym (extended_capitals callsign locator power numbers lent) ∙ header) at refused
 
-    exact : (answer : ExtendedAnswer) → extended_read callsign locator power numbers lent ≡ answer
-        → NeverExtended numbers lent (capital_form callsign) (capital_form locator) power → ExtendedRefused answer
-    exact (ExtendedAnswer.Extended h) e never_written =
+    exact : (answer : Result Header Refusal) → extended_read callsign locator power numbers lent ≡ answer
+        → NeverExtended numbers lent (capital_form callsign) (capital_form locator) power → Refused answer
+    exact (Ok h) e never_written =
         let r = reads_extended callsign locator power numbers lent h e in
         never_written h (readings_in callsign locator power numbers)
         (readings_in_length callsign locator power numbers r.p r.holds.legal r.payload ∙ sym (readings_each numbers lent r.each))
         (write_read callsign locator power numbers lent h e)
-    exact (ExtendedAnswer.Refused f) e never_written = tt
+    exact (Err f) e never_written = tt
 
 -- ---- Basic and extended telemetry
 
@@ -298,102 +298,108 @@ one_kind callsign locator power numbers lent each p e =
 
 -- ---- What the functions promise, from their answers and what the lent buffers then hold
 
-module _ (callsign locator : List ℕ) (h : Header) (numbers readings : List ℤ) where
-  pub record WritePromised (answer : MessageAnswer) (its_callsign its_locator : List ℕ) : Type 0 where
-    pub its_answer : answer ≡ extended_written callsign locator h numbers readings
-    pub its_numbers : message_numbers answer ≡ message_numbers (extended_written callsign locator h numbers readings)
-    pub its_callsign_after : its_callsign ≡ callsign_after_extended callsign locator h numbers readings
-    pub its_locator_after : its_locator ≡ locator_after_extended callsign locator h numbers readings
-    pub its_reading : ExtendedReadsBack answer h numbers readings its_callsign its_locator
-    pub its_nearest : ExtendedNearest answer numbers readings its_callsign its_locator
-    pub its_codes : CodesNeverShared answer h numbers readings its_callsign its_locator
-    pub its_capitals : WrittenInCapitals answer its_callsign its_locator
+-- The clauses of `write`, by their names there.
+abbrev pub WritePromised : (callsign locator : List ℕ) (h : Header) (table readings : List ℤ) (said : Result ℕ Refusal) (its_callsign its_locator : List ℕ) → Type 0
+WritePromised callsign locator h table readings said its_callsign its_locator = record {
+  answer : said ≡ extended_written callsign locator h table readings;
+  numbers : message_numbers said ≡ message_numbers (extended_written callsign locator h table readings);
+  callsign_after : its_callsign ≡ callsign_after_extended callsign locator h table readings;
+  locator_after : its_locator ≡ locator_after_extended callsign locator h table readings;
+  reads_back : ExtendedReadsBack said h table readings its_callsign its_locator;
+  nearest : ExtendedNearest said table readings its_callsign its_locator;
+  never_shared : CodesNeverShared said h table readings its_callsign its_locator;
+  in_capitals : WrittenInCapitals said its_callsign its_locator;
+}
 
-  abbrev after_callsign : MessageAnswer → List ℕ
+module _ (callsign locator : List ℕ) (h : Header) (numbers readings : List ℤ) where
+  abbrev after_callsign : Result ℕ Refusal → List ℕ
   after_callsign answer = content_after answer callsign (extended_callsign h (fields_of numbers) readings)
 
-  abbrev after_locator : MessageAnswer → List ℕ
+  abbrev after_locator : Result ℕ Refusal → List ℕ
   after_locator answer = content_after answer locator (extended_locator h (fields_of numbers) readings)
 
-  reads_back : (answer : MessageAnswer) → extended_written callsign locator h numbers readings ≡ answer
+  reads_back : (answer : Result ℕ Refusal) → extended_written callsign locator h numbers readings ≡ answer
       → ExtendedReadsBack answer h numbers readings (after_callsign answer) (after_locator answer)
   unfolding content_after
-  reads_back (MessageAnswer.Power power) e =
+  reads_back (Ok power) e =
       let w = message_of_written callsign locator h numbers readings power e in
       read_write h numbers readings power w.0 w.1
-  reads_back (MessageAnswer.Refused f) e = tt
+  reads_back (Err f) e = tt
 
-  nearest : (answer : MessageAnswer) → extended_written callsign locator h numbers readings ≡ answer
+  nearest : (answer : Result ℕ Refusal) → extended_written callsign locator h numbers readings ≡ answer
       → ExtendedNearest answer numbers readings (after_callsign answer) (after_locator answer)
   unfolding content_after
-  nearest (MessageAnswer.Power power) e =
+  nearest (Ok power) e =
       let w = message_of_written callsign locator h numbers readings power e in
       written_nearest h numbers readings power w.0 w.1
-  nearest (MessageAnswer.Refused f) e = tt
+  nearest (Err f) e = tt
 
-  own_codes : (answer : MessageAnswer) → extended_written callsign locator h numbers readings ≡ answer
+  own_codes : (answer : Result ℕ Refusal) → extended_written callsign locator h numbers readings ≡ answer
       → CodesNeverShared answer h numbers readings (after_callsign answer) (after_locator answer)
   unfolding content_after
-  own_codes (MessageAnswer.Power power) e =
+  own_codes (Ok power) e =
       let w = message_of_written callsign locator h numbers readings power e in
       never_shared h numbers readings power w.0 w.1
-  own_codes (MessageAnswer.Refused f) e = tt
+  own_codes (Err f) e = tt
 
-  in_capitals : (answer : MessageAnswer) → extended_written callsign locator h numbers readings ≡ answer
+  in_capitals : (answer : Result ℕ Refusal) → extended_written callsign locator h numbers readings ≡ answer
       → WrittenInCapitals answer (after_callsign answer) (after_locator answer)
   unfolding content_after
-  in_capitals (MessageAnswer.Power power) e =
+  in_capitals (Ok power) e =
       let w = message_of_written callsign locator h numbers readings power e in
       in_capitals_written h numbers readings power w.0 w.1
-  in_capitals (MessageAnswer.Refused f) e = tt
+  in_capitals (Err f) e = tt
 
-  pub write_promised : (answer : MessageAnswer) → extended_written callsign locator h numbers readings ≡ answer
-      → WritePromised answer (after_callsign answer) (after_locator answer)
+  pub write_promised : (answer : Result ℕ Refusal) → extended_written callsign locator h numbers readings ≡ answer
+      → WritePromised callsign locator h numbers readings answer (after_callsign answer) (after_locator answer)
   unfolding callsign_after_extended locator_after_extended
   write_promised answer e = record {
-    its_answer = sym e;
-    its_numbers = rw e;
-    its_callsign_after = rw e;
-    its_locator_after = rw e;
-    its_reading = reads_back answer e;
-    its_nearest = nearest answer e;
-    its_codes = own_codes answer e;
-    its_capitals = in_capitals answer e;
+    answer = sym e;
+    numbers = rw e;
+    callsign_after = rw e;
+    locator_after = rw e;
+    reads_back = reads_back answer e;
+    nearest = nearest answer e;
+    never_shared = own_codes answer e;
+    in_capitals = in_capitals answer e;
   }
 
-module _ (callsign locator : List ℕ) (power : ℕ) (numbers readings : List ℤ) where
-  pub record ReadPromised (answer : ExtendedAnswer) (after : List ℤ) : Type 0 where
-    pub its_answer : answer ≡ extended_read callsign locator power numbers (length readings)
-    pub its_numbers : extended_numbers answer ≡ extended_numbers (extended_read callsign locator power numbers (length readings))
-    pub its_readings : after ≡ readings_after_read callsign locator power numbers readings
-    pub its_capitals : answer ≡ extended_read (capital_form callsign) (capital_form locator) power numbers (length readings)
-    pub its_readings_capitals : after ≡ readings_after_read (capital_form callsign) (capital_form locator) power numbers readings
-    pub its_writing : ExtendedWritesBack answer numbers after callsign locator power
-    pub its_refusal : ExtendedRefusedExactly answer numbers (length readings) callsign locator power
-    pub its_kind : OneKind answer numbers (length readings) callsign locator power
+-- The clauses of `read`.
+abbrev pub ReadPromised : (callsign locator : List ℕ) (power : ℕ) (table readings : List ℤ) (said : Result Header Refusal) (after : List ℤ) → Type 0
+ReadPromised callsign locator power table readings said after = record {
+  answer : said ≡ extended_read callsign locator power table (length readings);
+  numbers : extended_numbers said ≡ extended_numbers (extended_read callsign locator power table (length readings));
+  readings_after : after ≡ readings_after_read callsign locator power table readings;
+  as_capitals : said ≡ extended_read (capital_form callsign) (capital_form locator) power table (length readings);
+  readings_as_capitals : after ≡ readings_after_read (capital_form callsign) (capital_form locator) power table readings;
+  writes_back : ExtendedWritesBack said table after callsign locator power;
+  refuses_exactly : ExtendedRefusedExactly said table (length readings) callsign locator power;
+  one_kind : OneKind said table (length readings) callsign locator power;
+}
 
-  writes_back : (answer : ExtendedAnswer) → extended_read callsign locator power numbers (length readings) ≡ answer
+module _ (callsign locator : List ℕ) (power : ℕ) (numbers readings : List ℤ) where
+  writes_back : (answer : Result Header Refusal) → extended_read callsign locator power numbers (length readings) ≡ answer
       → ExtendedWritesBack answer numbers (readings_after answer readings (readings_in callsign locator power numbers)) callsign locator power
   unfolding readings_after
-  writes_back (ExtendedAnswer.Extended h) e = write_read callsign locator power numbers (length readings) h e
-  writes_back (ExtendedAnswer.Refused f) e = tt
+  writes_back (Ok h) e = write_read callsign locator power numbers (length readings) h e
+  writes_back (Err f) e = tt
 
-  after_is : (answer : ExtendedAnswer) → extended_read callsign locator power numbers (length readings) ≡ answer
+  after_is : (answer : Result Header Refusal) → extended_read callsign locator power numbers (length readings) ≡ answer
       → readings_after answer readings (readings_in callsign locator power numbers) ≡ readings_after_read callsign locator power numbers readings
   unfolding readings_after_read
   after_is answer e = rw e
 
-  pub read_promised : (answer : ExtendedAnswer) → extended_read callsign locator power numbers (length readings) ≡ answer
-      → ReadPromised answer (readings_after answer readings (readings_in callsign locator power numbers))
+  pub read_promised : (answer : Result Header Refusal) → extended_read callsign locator power numbers (length readings) ≡ answer
+      → ReadPromised callsign locator power numbers readings answer (readings_after answer readings (readings_in callsign locator power numbers))
   read_promised answer e =
       let after = after_is answer e in
       record {
-        its_answer = sym e;
-        its_numbers = rw e;
-        its_readings = after;
-        its_capitals = sym (extended_capitals callsign locator power numbers (length readings) ∙ e);
-        its_readings_capitals = after ∙ sym (after_capitals callsign locator power numbers readings);
-        its_writing = writes_back answer e;
-        its_refusal = rw e at (refuses_exactly callsign locator power numbers (length readings));
-        its_kind = rw e at (one_kind callsign locator power numbers (length readings));
+        answer = sym e;
+        numbers = rw e;
+        readings_after = after;
+        as_capitals = sym (extended_capitals callsign locator power numbers (length readings) ∙ e);
+        readings_as_capitals = after ∙ sym (after_capitals callsign locator power numbers readings);
+        writes_back = writes_back answer e;
+        refuses_exactly = rw e at (refuses_exactly callsign locator power numbers (length readings));
+        one_kind = rw e at (one_kind callsign locator power numbers (length readings));
       }

@@ -1,29 +1,29 @@
 -- Laws of a table: its fields by their places, what is legal, and what its functions write field by field.
 use mathlib.Core.Path.{◌≡◌, refl, sym, ap, ◌∙◌}
-use Prim.Native.Nat.{ℕ, zero, suc, ◌+◌, ◌-◌, ◌*◌, ◌/◌, ◌^◌, ◌≤◌, ◌<◌}
+use mathlib.Core.Logic.{◌⊎◌, inl, inr}
+use Prim.Native.Nat.{ℕ, zero, suc, ◌+◌, ◌*◌, ◌/◌, ◌≤◌, ◌<◌}
 use native.Mathlib.Nat.{mul-le-mul_left, mul-one, one-mul, mul_assoc}
 use native.Mathlib.Numerals.{add-one}
 use native.Mathlib.Omega.{arith}
 use mathlib.Core.Bool.{true, false, true≢false, ◌&&◌}
-use mathlib.Core.List.{List, [], ◌∷◌, reverse, zip_with}
-use lib.Dec.{T, leb}
-use lib.IntN.{ℤ, pos, negsuc, nat_abs}
+use mathlib.Core.List.{List, [], ◌∷◌, ◌++◌, map, reverse, zip_with}
+use lib.Dec.{leb}
+use lib.IntN.{ℤ}
 use lib.ListN.{length, get_or, drop, drop_of_length-le, length-map}
 use lib.Seq.{drop-cons}
-use lib.Signed.{non_neg}
 use borrow.Author.Tests.{le-leb, lt-leb, leb-true}
-use Rattle.std.proofs.lemmas.List.{length-reverse, get_or-map}
-use mir.Syntax.{w64}
-use mir.Val.{SFits}
-use Rattle.basics.proofs.Choice.{both_true, by_test, between_below, between_above, between_range}
-use Rattle.basics.proofs.ListLaws.{get_d_reverse, length_zip_with, get_d_zip_with}
+use Rattle.std.proofs.lemmas.List.{length-reverse, length-append, get_or-map, append_assoc, append-nil, map-append, reverse-append}
+use Rattle.std.specs.Simd.{first_chunks}
+use Rattle.basics.proofs.Choice.{both_true, by_test, between_range}
+use Rattle.basics.specs.Test.{between}
+use Rattle.basics.proofs.ListLaws.{length_zip_with}
 use Rattle.radix.specs.Numeral.{Digits, Positive, count}
 use Rattle.radix.proofs.Laws.{digits_length, count_positive}
-use Rattle.extended.specs.Fields.{from_zero, field_of, no_field, fields_of, field_reading, legal_field, legal_fields, count_of, counts, legal_table, code_of, codes_of, field_readings}
+use Rattle.extended.specs.Fields.{field_of, field_in, no_field, fields_of, field_reading, legal_field, legal_fields, count_of, counts, legal_table, code_of, codes_of, field_readings}
 use Rattle.extended.specs.declared.field.Field.{Field}
-use Rattle.extended.proofs.FieldLaws.{legal, step_small, count_small, fits_small, code_below}
+use Rattle.extended.proofs.FieldLaws.{legal, code_below}
 
--- ---- The fields by their places
+-- ---- The fields of the lent numbers
 
 pub fields_length : (numbers : List ℤ) → length (fields_of numbers) ≡ length numbers / 3
 unfolding fields_of
@@ -32,60 +32,18 @@ fields_length (a ∷ []) = omega arith
 fields_length (a ∷ b ∷ []) = omega arith
 fields_length (a ∷ b ∷ n ∷ rest) = omega (arith, fields_length rest)
 
--- The numbers of a field are those from three times its place on.
-abbrev pub field_from : List ℤ → ℕ → Field
-field_from numbers i = field_of (get_or numbers (3 * i) (pos 0)) (get_or numbers (3 * i + 1) (pos 0)) (get_or numbers (3 * i + 2) (pos 0))
-
-later : (a b n : ℤ) (rest : List ℤ) (j k : ℕ) → j ≡ suc (suc (suc k)) → get_or (a ∷ b ∷ n ∷ rest) j (pos 0) ≡ get_or rest k (pos 0)
-later a b n rest j k e = rw e
-
-pub field_is : (numbers : List ℤ) (i : ℕ) → i < length (fields_of numbers) → get_or (fields_of numbers) i no_field ≡ field_from numbers i
+-- The fields of the numbers are those of the lent triples.
+pub fields_in : (numbers : List ℤ) → map field_in (first_chunks 3 (length numbers / 3) numbers) ≡ fields_of numbers
 unfolding fields_of
-field_is [] i h = absurd (omega arith)
-field_is (a ∷ []) i h = absurd (omega arith)
-field_is (a ∷ b ∷ []) i h = absurd (omega arith)
-field_is (a ∷ b ∷ n ∷ rest) zero h = refl
-field_is (a ∷ b ∷ n ∷ rest) (suc i) h =
-    rw (
-      later a b n rest (3 * suc i) (3 * i) (omega arith),
-      later a b n rest (3 * suc i + 1) (3 * i + 1) (omega arith),
-      later a b n rest (3 * suc i + 2) (3 * i + 2) (omega arith),
-    )
-    (field_is rest i (omega arith))
+fields_in [] = refl
+fields_in (a ∷ []) = refl
+fields_in (a ∷ b ∷ []) = refl
+fields_in (a ∷ b ∷ n ∷ rest) =
+    let more : length (a ∷ b ∷ n ∷ rest) / 3 ≡ suc (length rest / 3) = omega arith in
+    rw more (ap (λ (fs : List Field). field_of a b n ∷ fs) (fields_in rest))
 
--- Its three numbers, where they are a legal field's.
-pub record Three (lowest step count : ℤ) : Type 0 where
-  pub lowest_fits : SFits w64 lowest
-  pub step_fits : SFits w64 step
-  pub count_fits : SFits w64 count
-  pub step_positive : T (non_neg step)
-  pub count_positive : T (non_neg count)
-  pub step_small : nat_abs step < 2 ^ 32
-  pub count_small : nat_abs count ≤ 2 ^ 32
-  pub is : ◌≡◌ {A = Field} (record { lowest = lowest; step = nat_abs step; count = nat_abs count }) (field_of lowest step count)
-
-positive_fits : (z : ℤ) → 0 < from_zero z → from_zero z ≤ 2 ^ 32 → SFits w64 z × (T (non_neg z) × (nat_abs z ≡ from_zero z))
-unfolding from_zero
-positive_fits (pos n) h k = (record { sfits = omega arith }, (tt, refl))
-positive_fits (negsuc n) h k = absurd (omega arith)
-
-pub three : (lowest step count : ℤ) → legal_field (field_of lowest step count) ≡ true → Three lowest step count
-unfolding field_of
-three lowest step count e =
-    let f = field_of lowest step count in
-    let l = legal f e in
-    let steps = positive_fits step l.positive (omega (arith, step_small f l)) in
-    let counts = positive_fits count (omega (arith, l.two)) (count_small f l) in
-    record {
-      lowest_fits = record { sfits = omega (arith, fits_small lowest l.fits) };
-      step_fits = steps.0;
-      count_fits = counts.0;
-      step_positive = steps.1.0;
-      count_positive = counts.1.0;
-      step_small = omega (arith, steps.1.1, step_small f l);
-      count_small = omega (arith, counts.1.1, count_small f l);
-      is = rw (steps.1.1, counts.1.1);
-    }
+pub field_at : (threes : List (List ℤ)) (i : ℕ) → i < length threes → get_or (map field_in threes) i no_field ≡ field_in (get_or threes i [])
+field_at threes i h = get_or-map field_in threes i [] no_field h
 
 -- ---- What is legal
 
@@ -120,16 +78,15 @@ counts_positive (f ∷ fs) e =
     let l = legal f tests.0 in
     (omega (arith, l.two), counts_positive fs tests.1)
 
-pub no_fields : (fs : List Field) → length fs < 1 → legal_table fs ≡ false
-unfolding legal_table
-no_fields fs h = rw (between_below 1 29 (length fs) h)
+pub not_legal_table : (fs : List Field) → (legal_table fs ≡ true → ⊥) → legal_table fs ≡ false
+not_legal_table fs h = by_test (legal_table fs) (λ t. absurd (h t)) (λ t. t)
 
-pub many_fields : (fs : List Field) → 1 ≤ length fs → 29 < length fs → legal_table fs ≡ false
+pub few_or_many : (fs : List Field) → between 1 29 (length fs) ≡ false → legal_table fs ≡ false
 unfolding legal_table
-many_fields fs h k = rw (between_above 1 29 (length fs) h k)
+few_or_many fs e = rw e
 
 pub not_legal_at : (fs : List Field) (i : ℕ) → i < length fs → legal_field (get_or fs i no_field) ≡ false → legal_table fs ≡ false
-not_legal_at fs i h e = by_test (legal_table fs) (λ t. absurd (true≢false (sym (legal_at fs i t h) ∙ e))) (λ t. t)
+not_legal_at fs i h e = not_legal_table fs (λ t. true≢false (sym (legal_at fs i t h) ∙ e))
 
 -- Before a turn of the loop that tests a table: what the fields from here on have to be.
 pub record Testing (fs : List Field) (product i : ℕ) : Type 0 where
@@ -137,13 +94,9 @@ pub record Testing (fs : List Field) (product i : ℕ) : Type 0 where
   pub small : product ≤ 608_612_940
   pub rest : legal_table fs ≡ (legal_fields (drop i fs) && leb (product * count (counts (drop i fs))) 608_612_940)
 
-pub testing_starts : (fs : List Field) → 1 ≤ length fs → length fs ≤ 29 → Testing fs 1 0
+pub testing_starts : (fs : List Field) → between 1 29 (length fs) ≡ true → Testing fs 1 0
 unfolding legal_table
-testing_starts fs h k = record {
-  within = omega arith;
-  small = omega arith;
-  rest = rw (le-leb 1 (length fs) h, le-leb (length fs) 29 k, one-mul (count (counts fs)));
-}
+testing_starts fs e = record { within = omega arith; small = omega arith; rest = rw (e, one-mul (count (counts fs))) }
 
 module _ (fs : List Field) (product i : ℕ) (t : Testing fs product i) where
   module _ (h : i < length fs) (e : legal_field (get_or fs i no_field) ≡ true) where
@@ -171,35 +124,16 @@ module _ (fs : List Field) (product i : ℕ) (t : Testing fs product i) where
   unfolding legal_fields count
   testing_ends h = t.rest ∙ rw (drop_of_length-le fs h, mul-one product, le-leb product 608_612_940 t.small)
 
--- ---- What is written field by field
+-- ---- Counts and codes
 
 pub counts_length : (fs : List Field) → length (counts fs) ≡ length fs
 counts_length fs = length-map fs count_of
 
-pub count_at : (fs : List Field) (i : ℕ) → i < length fs → get_or (counts fs) i 0 ≡ (get_or fs i no_field).count
-unfolding count_of
-count_at fs i h = get_or-map count_of fs i no_field 0 h
-
 pub reversed_counts_length : (fs : List Field) → length (reverse (counts fs)) ≡ length fs
 reversed_counts_length fs = length-reverse (counts fs) ∙ counts_length fs
 
-pub reversed_count_at : (fs : List Field) (i : ℕ) → i < length fs → get_or (reverse (counts fs)) i 0 ≡ (get_or fs (length fs - 1 - i) no_field).count
-reversed_count_at fs i h =
-    get_d_reverse (counts fs) 0 i (omega (arith, counts_length fs))
-    ∙ rw (counts_length fs) (count_at fs (length fs - 1 - i) (omega arith))
-
-module _ (fs : List Field) (readings : List ℤ) (same : length readings ≡ length fs) where
-  pub codes_length : length (codes_of fs readings) ≡ length fs
-  codes_length = length_zip_with code_of fs readings same
-
-  pub reversed_codes_length : length (reverse (codes_of fs readings)) ≡ length fs
-  reversed_codes_length = length-reverse (codes_of fs readings) ∙ codes_length
-
-  pub reversed_code_at : (i : ℕ) → i < length fs
-      → get_or (reverse (codes_of fs readings)) i 0 ≡ code_of (get_or fs (length fs - 1 - i) no_field) (get_or readings (length fs - 1 - i) (pos 0))
-  reversed_code_at i h =
-      get_d_reverse (codes_of fs readings) 0 i (omega (arith, codes_length))
-      ∙ rw codes_length (get_d_zip_with code_of fs readings no_field (pos 0) 0 (length fs - 1 - i) (omega arith) same)
+pub codes_length : (fs : List Field) (readings : List ℤ) → length readings ≡ length fs → length (reverse (codes_of fs readings)) ≡ length fs
+codes_length fs readings same = length-reverse (codes_of fs readings) ∙ length_zip_with code_of fs readings same
 
 -- The codes of readings are below their counts.
 pub codes_below : (fs : List Field) (readings : List ℤ) → legal_fields fs ≡ true → length readings ≡ length fs → Digits (counts fs) (codes_of fs readings)
@@ -218,24 +152,89 @@ digit_at (r ∷ rs) [] i h k = absurd h
 digit_at (r ∷ rs) (d ∷ ds) zero h k = h.0
 digit_at (r ∷ rs) (d ∷ ds) (suc i) h k = digit_at rs ds i h.1 (omega arith)
 
-module _ (fs : List Field) (codes : List ℕ) (h : Digits (reverse (counts fs)) codes) where
-  pub codes_same : length codes ≡ length fs
-  codes_same = digits_length (reverse (counts fs)) codes h ∙ reversed_counts_length fs
+pub readings_length : (fs : List Field) (codes : List ℕ) → Digits (counts fs) codes → length (field_readings fs codes) ≡ length fs
+readings_length fs codes h = length_zip_with field_reading fs codes (digits_length (counts fs) codes h ∙ counts_length fs)
 
-  reversed_same : length (reverse codes) ≡ length fs
-  reversed_same = length-reverse codes ∙ codes_same
+-- ---- What is gathered field by field
 
-  pub readings_length : length (field_readings fs (reverse codes)) ≡ length fs
-  readings_length = length_zip_with field_reading fs (reverse codes) reversed_same
+-- Before a turn of a loop that gathers one for each field of a table: what is left to gather makes all.
+pub record Gathering {A : Type 0} (items left all : List A) : Type 0 where
+  pub whole : items ++ left ≡ all
+  pub few : length all ≤ 29
 
-  module _ (i : ℕ) (k : i < length fs) where
-    pub reading_at : get_or (field_readings fs (reverse codes)) i (pos 0) ≡ field_reading (get_or fs i no_field) (get_or codes (length fs - 1 - i) 0)
-    reading_at =
-        get_d_zip_with field_reading fs (reverse codes) no_field 0 (pos 0) i k reversed_same
-        ∙ ap (field_reading (get_or fs i no_field)) (get_d_reverse codes 0 i (omega (arith, codes_same)) ∙ rw codes_same)
+module _ {A : Type 0} {items left later all : List A} {x : A} (g : Gathering items left all) (next : left ≡ x ∷ later) where
+  pub gather_room : length items < 29
+  gather_room = omega (arith, g.few, ap length g.whole, length-append items left, ap length next)
 
-    pub code_at_below : get_or codes (length fs - 1 - i) 0 < (get_or fs i no_field).count
-    code_at_below =
-        let place : length fs - 1 - (length fs - 1 - i) ≡ i = omega arith in
-        let below = digit_at (reverse (counts fs)) codes (length fs - 1 - i) h (omega (arith, reversed_counts_length fs)) in
-        rw (reversed_count_at fs (length fs - 1 - i) (omega arith), place) at below
+  pub gather_turn : Gathering (items ++ x ∷ []) later all
+  gather_turn = record { whole = append_assoc items (x ∷ []) later ∙ (rw next at g.whole); few = g.few }
+
+pub gather_ends : {A : Type 0} {items left all : List A} → Gathering items left all → left ≡ [] → items ≡ all
+gather_ends {A} {items} g none = sym (append-nil items) ∙ (rw none at g.whole)
+
+-- Where a loop over fields and what stands beside them is over, nothing is left of one of the two, and so nothing to gather.
+module _ {A B S T : Type 0} {P : S → Type 0} {Q : T → Type 0} (f : Field → A → B) where
+  pub none_left : (threes : List (List ℤ)) (xs : List A) → ((s : S) × ((length threes ≡ 0) × P s)) ⊎ ((t : T) × ((length xs ≡ 0) × Q t))
+      → zip_with f (map field_in threes) xs ≡ []
+  unfolding zip_with
+  none_left [] xs over = refl
+  none_left (three ∷ threes) [] over = refl
+  none_left (three ∷ threes) (x ∷ xs) (inl over) = absurd (omega (arith, over.1.0))
+  none_left (three ∷ threes) (x ∷ xs) (inr over) = absurd (omega (arith, over.1.0))
+
+-- The last of the fields that are left, and what it gives.
+legal_push : (fs : List Field) (f : Field) → legal_fields (fs ++ f ∷ []) ≡ true → (legal_field f ≡ true) × (legal_fields fs ≡ true)
+unfolding legal_fields
+legal_push [] f e = ((both_true (legal_field f) true e).0, refl)
+legal_push (g ∷ fs) f e =
+    let (first, rest) = both_true (legal_field g) (legal_fields (fs ++ f ∷ [])) e in
+    let (last, front) = legal_push fs f rest in
+    (last, rw (first, front))
+
+codes_push : (fs : List Field) (readings : List ℤ) (f : Field) (x : ℤ) → length readings ≡ length fs
+    → codes_of (fs ++ f ∷ []) (readings ++ x ∷ []) ≡ codes_of fs readings ++ code_of f x ∷ []
+unfolding zip_with
+codes_push [] [] f x same = refl
+codes_push [] (y ∷ readings) f x same = absurd (omega arith)
+codes_push (g ∷ fs) [] f x same = absurd (omega arith)
+codes_push (g ∷ fs) (y ∷ readings) f x same = ap (λ (codes : List ℕ). code_of g y ∷ codes) (codes_push fs readings f x (omega arith))
+
+fields_push : (threes : List (List ℤ)) (three : List ℤ) → map field_in (threes ++ three ∷ []) ≡ map field_in threes ++ field_in three ∷ []
+fields_push threes three = map-append field_in threes (three ∷ [])
+
+module _ {threes : List (List ℤ)} (rest : List (List ℤ)) (three : List ℤ) (last : threes ≡ rest ++ three ∷ []) where
+  pub last_legal : legal_fields (map field_in threes) ≡ true → (legal_field (field_in three) ≡ true) × (legal_fields (map field_in rest) ≡ true)
+  last_legal e = legal_push (map field_in rest) (field_in three) (rw (last, fields_push rest three) at e)
+
+  pub last_count : reverse (counts (map field_in threes)) ≡ (field_in three).count ∷ reverse (counts (map field_in rest))
+  unfolding count_of
+  last_count = rw (last, fields_push rest three, map-append, reverse-append)
+
+  module _ {readings : List ℤ} (xs : List ℤ) (x : ℤ) (last_reading : readings ≡ xs ++ x ∷ []) (same : length readings ≡ length threes) where
+    pub same_left : length xs ≡ length rest
+    same_left = omega (arith, same, ap length last, ap length last_reading, length-append rest (three ∷ []), length-append xs (x ∷ []))
+
+    pub last_code : reverse (codes_of (map field_in threes) readings) ≡ code_of (field_in three) x ∷ reverse (codes_of (map field_in rest) xs)
+    last_code =
+        rw (
+          last,
+          last_reading,
+          fields_push rest three,
+          codes_push (map field_in rest) xs (field_in three) x (omega (arith, same_left, length-map rest field_in)),
+          reverse-append,
+        )
+
+-- The first of the fields that are left, and its code, which is the last of those that are left.
+module _ {threes rest : List (List ℤ)} {three : List ℤ} (first : threes ≡ three ∷ rest) where
+  pub first_legal : legal_fields (map field_in threes) ≡ true → (legal_field (field_in three) ≡ true) × (legal_fields (map field_in rest) ≡ true)
+  unfolding legal_fields
+  first_legal e = both_true _ _ (rw first at e)
+
+  module _ {codes : List ℕ} (ds : List ℕ) (d : ℕ) (last : codes ≡ ds ++ d ∷ []) where
+    pub first_reading : field_readings (map field_in threes) (reverse codes) ≡ field_reading (field_in three) d ∷ field_readings (map field_in rest) (reverse ds)
+    unfolding zip_with
+    first_reading = rw (first, last, reverse-append)
+
+    pub first_below : Digits (counts (map field_in threes)) (reverse codes) → (d < (field_in three).count) × Digits (counts (map field_in rest)) (reverse ds)
+    unfolding Digits count_of
+    first_below h = rw (first, last, reverse-append) at h

@@ -1,18 +1,16 @@
 -- What writing and reading extended telemetry answer, for every input, what the lent buffers then hold, and the result numbers of an answer.
-use Rattle.std.specs.Prelude.{ℕ, ◌*◌, Bool, cond, not, ◌&&◌, List, eqb, leb, ℤ, length}
-use Rattle.refusal.specs.Refusals.{refusal, wrong_length, out_of_range, bad_field_table, not_extended, reserved_not_zero, bad_slot_or_type, number_left_over}
+use Rattle.std.specs.Prelude.{ℕ, ◌*◌, Bool, cond, not, ◌&&◌, List, eqb, leb, ℤ, length, Result, Ok, Err}
+use Rattle.refusal.specs.Refusals.{refusal_number, refusal_place}
 use Rattle.message.specs.Answer.{right_lengths, content_after}
-use Rattle.message.specs.declared.MessageAnswer.{MessageAnswer}
+use Rattle.refusal.specs.declared.Refusal.{Refusal}
 use Rattle.u4b.specs.Channel.{is_first_character, is_third_character, no_channel}
 use Rattle.u4b.specs.Answer.{payload_message, payload_callsign, payload_locator, payload_of, payload_read}
 use Rattle.u4b.specs.declared.channel.FirstCharacters.{FirstCharacters}
 use Rattle.u4b.specs.declared.Payload.{Payload}
-use Rattle.u4b.specs.declared.PayloadAnswer.{PayloadAnswer}
 use Rattle.extended.specs.Fields.{fields_of, legal_table, codes_of, field_readings}
 use Rattle.extended.specs.Number.{extended_payload, payload_number, reserved_in, telemetry_type_in, header_in, codes_in, left_over}
 use Rattle.extended.specs.declared.field.Field.{Field}
 use Rattle.extended.specs.declared.Header.{Header}
-use Rattle.extended.specs.declared.ExtendedAnswer.{ExtendedAnswer}
 
 -- A channel is named as in basic telemetry.
 abbrev pub extended_first : FirstCharacters
@@ -29,12 +27,12 @@ unfoldable pub legal_slot_and_type : Header → Bool
 legal_slot_and_type h = leb h.slot 4 && leb h.kind 15
 
 -- The power of the message, or why nothing is written.
-unfoldable pub extended_message : Header → List Field → List ℤ → MessageAnswer
+unfoldable pub extended_message : Header → List Field → List ℤ → Result ℕ Refusal
 extended_message h fs readings =
-    cond (not (is_first_character extended_first h.channel.first)) (MessageAnswer.Refused (refusal out_of_range 0))
-    (cond (not (is_third_character h.channel.third)) (MessageAnswer.Refused (refusal out_of_range 1))
-    (cond (not (legal_table fs)) (MessageAnswer.Refused (refusal bad_field_table 0))
-    (cond (not (legal_slot_and_type h)) (MessageAnswer.Refused (refusal bad_slot_or_type 0))
+    cond (not (is_first_character extended_first h.channel.first)) (Err (Refusal.OutOfRange 0))
+    (cond (not (is_third_character h.channel.third)) (Err (Refusal.OutOfRange 1))
+    (cond (not (legal_table fs)) (Err Refusal.BadFieldTable)
+    (cond (not (legal_slot_and_type h)) (Err Refusal.BadSlotOrType)
     (payload_message extended_first (extended_payload h fs (codes_of fs readings))))))
 
 -- The callsign of the message.
@@ -46,10 +44,10 @@ unfoldable pub extended_locator : Header → List Field → List ℤ → List �
 extended_locator h fs readings = payload_locator (extended_payload h fs (codes_of fs readings))
 
 -- The answer, given what the lent callsign and locator hold and the table's numbers.
-unfoldable pub extended_written : List ℕ → List ℕ → Header → List ℤ → List ℤ → MessageAnswer
+unfoldable pub extended_written : List ℕ → List ℕ → Header → List ℤ → List ℤ → Result ℕ Refusal
 extended_written callsign locator h numbers readings =
-    cond (not (one_each (length numbers) (length readings))) (MessageAnswer.Refused (refusal wrong_length 0))
-    (cond (not (right_lengths (length callsign) (length locator))) (MessageAnswer.Refused (refusal wrong_length 0))
+    cond (not (one_each (length numbers) (length readings))) (Err Refusal.WrongLength)
+    (cond (not (right_lengths (length callsign) (length locator))) (Err Refusal.WrongLength)
     (extended_message h (fields_of numbers) readings))
 
 -- What the lent callsign then holds.
@@ -66,24 +64,24 @@ locator_after_extended callsign locator h numbers readings =
 
 -- What the number says beside its readings, or why it says nothing: 20, "basic and not extended", 19, "field table bad", 21, "reserved not
 -- 0", and 23, "number left over above the fields".
-unfoldable pub payload_extended : List Field → Payload → ExtendedAnswer
+unfoldable pub payload_extended : List Field → Payload → Result Header Refusal
 payload_extended fs p =
     let n = payload_number p in
-    cond (not (eqb (telemetry_type_in n) 0)) (ExtendedAnswer.Refused (refusal not_extended 0))
-    (cond (not (legal_table fs)) (ExtendedAnswer.Refused (refusal bad_field_table 0))
-    (cond (not (eqb (reserved_in n) 0)) (ExtendedAnswer.Refused (refusal reserved_not_zero 0))
-    (cond (not (eqb (left_over fs n) 0)) (ExtendedAnswer.Refused (refusal number_left_over 0))
-    (ExtendedAnswer.Extended (header_in p)))))
+    cond (not (eqb (telemetry_type_in n) 0)) (Err Refusal.NotExtended)
+    (cond (not (legal_table fs)) (Err Refusal.BadFieldTable)
+    (cond (not (eqb (reserved_in n) 0)) (Err Refusal.ReservedNotZero)
+    (cond (not (eqb (left_over fs n) 0)) (Err Refusal.NumberLeftOver)
+    (Ok (header_in p)))))
 
 -- 1 of callsign and locator, 2, 3 and 10 are those of reading the channel and the two numbers.
-unfoldable pub extended_if_payload : List Field → PayloadAnswer → ExtendedAnswer
-extended_if_payload fs (PayloadAnswer.Payload p) = payload_extended fs p
-extended_if_payload fs (PayloadAnswer.Refused f) = ExtendedAnswer.Refused f
+unfoldable pub extended_if_payload : List Field → Result Payload Refusal → Result Header Refusal
+extended_if_payload fs (Ok p) = payload_extended fs p
+extended_if_payload fs (Err f) = Err f
 
 -- The answer where so many readings are lent.
-unfoldable pub extended_read : List ℕ → List ℕ → ℕ → List ℤ → ℕ → ExtendedAnswer
+unfoldable pub extended_read : List ℕ → List ℕ → ℕ → List ℤ → ℕ → Result Header Refusal
 extended_read callsign locator power numbers readings =
-    cond (not (one_each (length numbers) readings)) (ExtendedAnswer.Refused (refusal wrong_length 0))
+    cond (not (one_each (length numbers) readings)) (Err Refusal.WrongLength)
     (extended_if_payload (fields_of numbers) (payload_read extended_first callsign locator power))
 
 -- The readings in a message.
@@ -93,9 +91,9 @@ readings_in callsign locator power numbers =
     field_readings fs (codes_in fs (payload_number (payload_of callsign locator power)))
 
 -- What lent readings hold after an answer: those of the message, or what they held.
-unfoldable pub readings_after : ExtendedAnswer → List ℤ → List ℤ → List ℤ
-readings_after (ExtendedAnswer.Extended h) before readings = readings
-readings_after (ExtendedAnswer.Refused f) before readings = before
+unfoldable pub readings_after : Result Header Refusal → List ℤ → List ℤ → List ℤ
+readings_after (Ok h) before readings = readings
+readings_after (Err f) before readings = before
 
 -- What the lent readings then hold.
 unfoldable pub readings_after_read : List ℕ → List ℕ → ℕ → List ℤ → List ℤ → List ℤ
@@ -113,6 +111,6 @@ pub record ExtendedNumbers : Type 0 where
 unfoldable pub no_header : Header
 no_header = record { channel = no_channel; slot = 0; kind = 0 }
 
-unfoldable pub extended_numbers : ExtendedAnswer → ExtendedNumbers
-extended_numbers (ExtendedAnswer.Extended h) = record { number = 0; place = 0; header = h }
-extended_numbers (ExtendedAnswer.Refused f) = record { number = f.number; place = f.place; header = no_header }
+unfoldable pub extended_numbers : Result Header Refusal → ExtendedNumbers
+extended_numbers (Ok h) = record { number = 0; place = 0; header = h }
+extended_numbers (Err f) = record { number = refusal_number f; place = refusal_place f; header = no_header }

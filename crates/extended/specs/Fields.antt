@@ -1,5 +1,5 @@
 -- A table of fields, the code of a reading and the reading of a code (02, L3).
-use Rattle.std.specs.Prelude.{ℕ, ◌+◌, ◌-◌, ◌*◌, ◌/◌, Bool, true, cond, ◌&&◌, leb, ℤ, pos, negsuc, neg_ℤ, nat_abs, ◌+ℤ◌, ◌-ℤ◌, length}
+use Rattle.std.specs.Prelude.{ℕ, ◌+◌, ◌-◌, ◌*◌, ◌/◌, Bool, true, cond, ◌&&◌, leb, ℤ, pos, negsuc, neg_ℤ, nat_abs, ◌+ℤ◌, ◌-ℤ◌, length, get_or}
 use mathlib.Core.List.{List, [], ◌∷◌, map, zip_with}
 use Rattle.std.specs.Int.Signed.{le_z}
 use Rattle.basics.specs.Test.{between, betweenℤ}
@@ -16,6 +16,10 @@ from_zero (negsuc n) = 0
 -- The field of three numbers: "each with lowest number, step and count".
 unfoldable pub field_of : ℤ → ℤ → ℤ → Field
 field_of lowest step count = record { lowest = lowest; step = from_zero step; count = from_zero count }
+
+-- The field of three numbers that stand together.
+abbrev pub field_in : List ℤ → Field
+field_in three = field_of (get_or three 0 (pos 0)) (get_or three 1 (pos 0)) (get_or three 2 (pos 0))
 
 -- What stands past the last field.
 abbrev pub no_field : Field

@@ -12,9 +12,8 @@ ghost use Rattle.message.specs.RoundTrip.{WrittenInCapitals};
 ghost use Rattle.extended.specs.Answer.{one_each, legal_slot_and_type, extended_written, callsign_after_extended, locator_after_extended, extended_read, extended_numbers, readings_after_read};
 ghost use Rattle.extended.specs.RoundTrip.{ExtendedReadsBack, ExtendedNearest, CodesNeverShared, ExtendedWritesBack, ExtendedRefusedExactly, OneKind};
 
-use message::MessageAnswer;
-use refusal::{BAD_FIELD_TABLE, BAD_SLOT_OR_TYPE, OUT_OF_RANGE, Refusal, WRONG_LENGTH};
-use u4b::PayloadAnswer;
+use refusal::Refusal;
+use table::Table;
 use u4b::channel::{Channel, FirstCharacters, is_first_character, is_third_character};
 
 // What a message says beside its readings: channel, slot and type.
@@ -26,13 +25,6 @@ pub struct Header {
     pub kind: u32,
 }
 
-// What a message says beside its readings, or why it says nothing: the answer of `read`.
-#[derive(Clone, Copy)]
-pub enum ExtendedAnswer {
-    Extended(Header),
-    Refused(Refusal),
-}
-
 // There is one reading a field: three numbers of the table for each.
 fn one_each(numbers: usize, readings: usize) -> bool
     ensures { result ≡ one_each numbers readings }
@@ -41,20 +33,22 @@ fn one_each(numbers: usize, readings: usize) -> bool
 }
 
 // The slot is 0 to 4 and the type 0 to 15.
+#[tactic(auto, unfolding(crate::specs::Answer::legal_slot_and_type))]
 fn legal_slot_and_type(header: Header) -> bool
     ensures { result ≡ legal_slot_and_type header }
 {
     header.slot <= 4 && header.kind <= 15
 }
 
-// The message of the readings: its callsign and locator are written, its power is the answer.
+// The message of the readings: its callsign and locator are written, its power is the answer. The fields
+// are lent as C has them, three numbers each.
 pub fn write(
     header: Header,
     fields: &[i64],
     readings: &[i64],
     callsign: &mut [u8],
     locator: &mut [u8],
-) -> MessageAnswer
+) -> Result<u32, Refusal>
     ensures answer { result ≡ extended_written callsign.old locator.old header fields.now readings.now }
     ensures numbers { message_numbers result ≡ message_numbers (extended_written callsign.old locator.old header fields.now readings.now) }
     ensures callsign_after { callsign.new ≡ callsign_after_extended callsign.old locator.old header fields.now readings.now }
@@ -65,43 +59,25 @@ pub fn write(
     ensures in_capitals { WrittenInCapitals result callsign.new locator.new }
 {
     if !one_each(fields.len(), readings.len()) {
-        return MessageAnswer::Refused(Refusal {
-            number: WRONG_LENGTH,
-            place: 0,
-        });
+        return Err(Refusal::WrongLength);
     }
     if !message::right_lengths(callsign.len(), locator.len()) {
-        return MessageAnswer::Refused(Refusal {
-            number: WRONG_LENGTH,
-            place: 0,
-        });
+        return Err(Refusal::WrongLength);
     }
     let channel = header.channel;
     if !is_first_character(FirstCharacters::ZeroOneQ, channel.first) {
-        return MessageAnswer::Refused(Refusal {
-            number: OUT_OF_RANGE,
-            place: 0,
-        });
+        return Err(Refusal::OutOfRange(0));
     }
     if !is_third_character(channel.third) {
-        return MessageAnswer::Refused(Refusal {
-            number: OUT_OF_RANGE,
-            place: 1,
-        });
+        return Err(Refusal::OutOfRange(1));
     }
-    if !table::is_legal(fields) {
-        return MessageAnswer::Refused(Refusal {
-            number: BAD_FIELD_TABLE,
-            place: 0,
-        });
-    }
+    let Some(table) = Table::checked(fields) else {
+        return Err(Refusal::BadFieldTable);
+    };
     if !legal_slot_and_type(header) {
-        return MessageAnswer::Refused(Refusal {
-            number: BAD_SLOT_OR_TYPE,
-            place: 0,
-        });
+        return Err(Refusal::BadSlotOrType);
     }
-    let payload = number::payload_from(header, fields, readings);
+    let payload = number::payload_from(header, &table, readings);
     u4b::write(FirstCharacters::ZeroOneQ, payload, callsign, locator)
 }
 
@@ -113,7 +89,7 @@ pub fn read(
     power: u32,
     fields: &[i64],
     readings: &mut [i64],
-) -> ExtendedAnswer
+) -> Result<Header, Refusal>
     ensures answer { result ≡ extended_read callsign.now locator.now power fields.now (length readings.old) }
     ensures numbers { extended_numbers result ≡ extended_numbers (extended_read callsign.now locator.now power fields.now (length readings.old)) }
     ensures readings_after { readings.new ≡ readings_after_read callsign.now locator.now power fields.now readings.old }
@@ -124,13 +100,8 @@ pub fn read(
     ensures one_kind { OneKind result fields.now (length readings.old) callsign.now locator.now power }
 {
     if !one_each(fields.len(), readings.len()) {
-        return ExtendedAnswer::Refused(Refusal {
-            number: WRONG_LENGTH,
-            place: 0,
-        });
+        return Err(Refusal::WrongLength);
     }
-    match u4b::read(FirstCharacters::ZeroOneQ, callsign, locator, power) {
-        PayloadAnswer::Payload(payload) => number::read_payload(payload, fields, readings),
-        PayloadAnswer::Refused(refusal) => ExtendedAnswer::Refused(refusal),
-    }
+    let payload = u4b::read(FirstCharacters::ZeroOneQ, callsign, locator, power)?;
+    number::read_payload(payload, fields, readings)
 }

@@ -1,101 +1,94 @@
-// The table of fields that the caller lends, three numbers a field, and what is written field by field.
-ghost use Rattle.std.specs.Prelude.{◌≡◌, true, reverse, ◌<◌, length, get_or};
+// The table of fields that the caller lends, and what is gathered field by field.
+ghost use Rattle.std.specs.Prelude.{◌≡◌, true, List, map, reverse, length};
+ghost use Rattle.std.specs.Option.{SomeIff};
 ghost use Rattle.radix.specs.Numeral.{Digits};
-ghost use Rattle.extended.specs.Fields.{fields_of, no_field, legal_table, counts, codes_of, field_readings};
+ghost use Rattle.extended.specs.Fields.{fields_of, field_in, legal_table, counts, codes_of, field_readings};
+ghost use Rattle.extended.specs.declared.field.Field.{Field};
 
-use super::field::{Field, code_of, is_legal_field, reading_of};
+use super::field::Field;
+use arrayvec::ArrayVec;
+use std::marker::Model;
 
 // The most fields of a table, and the largest product of their counts.
 pub(crate) const MOST_FIELDS: usize = 29;
 
 const LARGEST_PRODUCT: u64 = 608_612_940;
 
-// The table is legal.
-pub(crate) fn is_legal(fields: &[i64]) -> bool
-    ensures { result ≡ legal_table (fields_of fields.now) }
-{
-    let n = fields.len() / 3;
-    if n < 1 {
-        return false;
-    }
-    if MOST_FIELDS < n {
-        return false;
-    }
-    let mut product = 1u64;
-    let mut i = 0;
-    while i < n {
-        let at = 3 * i;
-        let count = fields[at + 2];
-        if !is_legal_field(fields[at], fields[at + 1], count) {
-            return false;
+// One for each field of a table.
+pub(crate) type PerField<T> = ArrayVec<T, MOST_FIELDS>;
+
+// A legal table, seen as the list of its fields: lent, three numbers a field.
+#[derive(Drop)]
+pub(crate) struct Table<'a> {
+    fields: &'a [[i64; 3]],
+}
+
+impl<'a> Model for Table<'a> {
+    ghost Value = { List Field };
+
+    ghost view = { λ t. map field_in t.fields.now };
+
+    ghost invariant = { λ t. legal_table (map field_in t.fields.now) ≡ true };
+}
+
+impl<'a> Table<'a> {
+    // The table of the numbers, where it is legal.
+    pub(crate) fn checked(numbers: &'a [i64]) -> Option<Self>
+        ensures { SomeIff result (legal_table (fields_of numbers.now) ≡ true) (fields_of numbers.now) }
+    {
+        let (fields, _) = numbers.as_chunks::<3>();
+        if !(1..=MOST_FIELDS).contains(&fields.len()) {
+            return None;
         }
-        product *= count as u64;
-        if LARGEST_PRODUCT < product {
-            return false;
+        let mut product = 1u64;
+        for three in fields {
+            if !Field::is_legal(three) {
+                return None;
+            }
+            product *= Field::of(three).count;
+            if LARGEST_PRODUCT < product {
+                return None;
+            }
         }
-        i += 1;
+        Some(Table { fields })
     }
-    true
-}
 
-// A field of a legal table.
-fn field_at(fields: &[i64], i: usize) -> Field
-    requires fields_value { legal_table (fields_of fields.now) ≡ true }
-    requires i_in_bounds { i < length (fields_of fields.now) }
-    ensures { result ≡ get_or (fields_of fields.now) i no_field }
-{
-    let at = 3 * i;
-    let lowest = fields[at];
-    Field {
-        lowest,
-        step: fields[at + 1] as u64,
-        count: fields[at + 2] as u64,
+    // Below a loop for each list, and no `collect`: that takes an allocator, and may fail.
+
+    // The counts of the fields, last field first. A caller sees the fields alone, so `legal` says what
+    // holds of them.
+    pub(crate) fn counts(&self) -> PerField<u64>
+        ensures value { result.items ≡ reverse (counts self.now) }
+        ensures legal { legal_table self.now ≡ true }
+    {
+        let mut counts = PerField::new();
+        for three in self.fields.iter().rev() {
+            counts.push(Field::of(three).count);
+        }
+        counts
     }
-}
 
-// Writes the counts of the fields, last field first.
-pub(crate) fn write_counts(fields: &[i64], radices: &mut [u64])
-    requires fields_value { legal_table (fields_of fields.now) ≡ true }
-    requires radices_len { length radices.old ≡ length (fields_of fields.now) }
-    ensures { radices.new ≡ reverse (counts (fields_of fields.now)) }
-{
-    let n = radices.len();
-    let mut i = 0;
-    while i < n {
-        let field = field_at(fields, n - 1 - i);
-        radices[i] = field.count;
-        i += 1;
+    // The codes of the readings, last field first.
+    pub(crate) fn codes(&self, readings: &[i64]) -> PerField<u64>
+        requires { length readings.now ≡ length self.now }
+        ensures { result.items ≡ reverse (codes_of self.now readings.now) }
+    {
+        let mut codes = PerField::new();
+        for (three, &reading) in self.fields.iter().rev().zip(readings.iter().rev()) {
+            codes.push(Field::of(three).code_of(reading));
+        }
+        codes
     }
-}
 
-// Writes the codes of the readings, last field first.
-pub(crate) fn write_codes(fields: &[i64], readings: &[i64], codes: &mut [u64])
-    requires fields_value { legal_table (fields_of fields.now) ≡ true }
-    requires readings_len { length readings.now ≡ length (fields_of fields.now) }
-    requires codes_len { length codes.old ≡ length (fields_of fields.now) }
-    ensures { codes.new ≡ reverse (codes_of (fields_of fields.now) readings.now) }
-{
-    let n = codes.len();
-    let mut i = 0;
-    while i < n {
-        let k = n - 1 - i;
-        codes[i] = code_of(field_at(fields, k), readings[k]);
-        i += 1;
-    }
-}
-
-// Writes the readings of the codes, which stand last field first.
-pub(crate) fn write_readings(fields: &[i64], codes: &[u64], readings: &mut [i64])
-    requires fields_value { legal_table (fields_of fields.now) ≡ true }
-    requires readings_len { length readings.old ≡ length (fields_of fields.now) }
-    requires digits { Digits (reverse (counts (fields_of fields.now))) codes.now }
-    ensures { readings.new ≡ field_readings (fields_of fields.now) (reverse codes.now) }
-{
-    let n = readings.len();
-    let mut i = 0;
-    while i < n {
-        let reading = reading_of(field_at(fields, i), codes[n - 1 - i]);
-        readings[i] = reading;
-        i += 1;
+    // The readings of the codes, which stand last field first.
+    pub(crate) fn readings(&self, codes: &[u64]) -> PerField<i64>
+        requires { Digits (counts self.now) (reverse codes.now) }
+        ensures { result.items ≡ field_readings self.now (reverse codes.now) }
+    {
+        let mut readings = PerField::new();
+        for (three, &code) in self.fields.iter().zip(codes.iter().rev()) {
+            readings.push(Field::of(three).reading_of(code));
+        }
+        readings
     }
 }

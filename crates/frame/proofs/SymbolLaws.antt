@@ -3,14 +3,20 @@ use mathlib.Core.Path.{◌≡◌, refl, sym, ap, ◌∙◌}
 use mathlib.Core.Logic.{◌↔◌}
 use Prim.Native.Nat.{ℕ, ◌+◌, ◌*◌, ◌/◌, ◌%◌, ◌^◌, ◌≤◌, ◌<◌}
 use native.Mathlib.Omega.{arith}
+use mathlib.Core.Bool.{Bool, not}
 use mathlib.Core.List.{List}
 use lib.Dec.{ltb, eqb}
 use lib.ListN.{length, get_or}
 use lib.Seq.{ext_get_or}
 use borrow.Author.Tests.{ltb-true, leb-true, eqb-true, le-leb, eq-eqb}
+use Rattle.std.proofs.Common.{None}
+use Rattle.std.specs.List.{zip, position}
+use Rattle.std.proofs.lemmas.Slice.Zip.{length-zip, get_or-zip}
 use Rattle.basics.specs.Below.{count_below}
+use Rattle.basics.specs.Lists.{some_below}
 use Rattle.basics.proofs.BelowLaws.{count_none, count_one}
 use Rattle.basics.proofs.Choice.{by_test}
+use Rattle.basics.proofs.SearchLaws.{position_first_failing, some_below_none}
 use Rattle.basics.proofs.Tables.{every_at}
 use Rattle.basics.proofs.ListLaws.{length_tabulate, get_d_tabulate, by_rule, passes_at, passes_each}
 use Rattle.convolution.specs.Code.{coded_bits}
@@ -26,7 +32,7 @@ use Rattle.frame.specs.RoundTrip.{RightForm}
 -- ---- Symbols
 
 -- "it has 162 entries"
-length_sync : length sync_vector ≡ 162
+pub length_sync : length sync_vector ≡ 162
 unfolding sync_vector
 length_sync = refl
 
@@ -152,6 +158,15 @@ module _ (frame : List ℕ) where
             λ place h. eqb-true _ _ (passes_at synced 0 frame (rw e wrong) place (omega arith));
       }
 
+  -- So it is where the searches for a place that hasn't it find none.
+  pub symbols_of_search : length frame ≡ 162 → some_below (length frame) (first_large frame) ≡ None → RightSymbols frame
+  symbols_of_search e large = symbols_of_test e (omega (arith, some_below_none _ _ large))
+
+  pub form_of_searches : length frame ≡ 162 → some_below (length frame) (first_large frame) ≡ None
+      → some_below (length frame) (first_wrong_sync frame) ≡ None → RightForm frame
+  form_of_searches e large wrong =
+      form_of_tests e (omega (arith, some_below_none _ _ large)) (omega (arith, some_below_none _ _ wrong))
+
   pub none_large : RightSymbols frame → first_large frame ≡ 162
   unfolding first_large
   none_large right =
@@ -175,3 +190,24 @@ no_wrong_sync frame = (right, λ all. count_none 162 (unsynced_at frame) (λ pla
         by_test (eqb (get_or frame place 0 % 2) (sync_at place))
         (λ same. eqb-true _ _ same)
         (λ other. absurd (omega (arith, count_one 162 (unsynced_at frame) place h (rw other))))
+
+-- ---- A frame's symbols with the sync bits beside them, as a `zip` gives them
+
+abbrev pub beside_sync : List ℕ → List (ℕ × ℕ)
+beside_sync frame = zip frame sync_vector
+
+-- A symbol's sync bit is another than the one beside it.
+abbrev pub is_unsynced : ℕ × ℕ → Bool
+is_unsynced pair = not (eqb (pair.0 % 2) pair.1)
+
+module _ (frame : List ℕ) (short : length frame ≤ 162) where
+  length_beside_sync : length (beside_sync frame) ≡ length frame
+  length_beside_sync = length-zip frame sync_vector ∙ omega (arith, length_sync)
+
+  unsynced_beside : (place : ℕ) → place < length frame → is_unsynced (get_or (beside_sync frame) place (0, 0)) ≡ unsynced_at frame place
+  unfolding sync_at
+  unsynced_beside place h = rw (get_or-zip frame sync_vector place (0, 0) h (omega (arith, length_sync)))
+
+  pub unsynced_first : position is_unsynced (beside_sync frame) ≡ some_below (length frame) (first_wrong_sync frame)
+  unfolding first_wrong_sync
+  unsynced_first = position_first_failing synced is_unsynced 0 (0, 0) frame (beside_sync frame) length_beside_sync unsynced_beside

@@ -1,56 +1,44 @@
 // The symbols of a frame: each a sync bit and a data bit, and the coded bits behind the data.
 ghost use Rattle.std.specs.Prelude.{◌≡◌, ◌≤◌, length};
+ghost use Rattle.basics.specs.Lists.{some_below};
 ghost use Rattle.frame.specs.Symbols.{received_bits, wrong_sync_in};
+ghost use Rattle.frame.specs.RoundTrip.{RightForm};
 ghost use Rattle.frame.specs.Answer.{first_large, first_wrong_sync, word_of_data};
 
 use super::sync::sync_vector;
-use message::WordAnswer;
-use refusal::{NO_WORD, Refusal};
+use refusal::Refusal;
 
-// The first place whose symbol is above 3; the length where there is none.
-pub fn first_large(frame: &[u8]) -> usize
-    ensures { result ≡ first_large frame.now }
+// The first place whose symbol is above 3.
+pub fn first_large(frame: &[u8]) -> Option<usize>
+    ensures { result ≡ some_below (length frame.now) (first_large frame.now) }
 {
-    let mut place = 0;
-    while place < frame.len() {
-        if 3 < frame[place] {
-            return place;
-        }
-        place += 1;
-    }
-    place
+    frame.iter().position(|symbol| 3 < *symbol)
 }
 
-// The first place whose sync bit is wrong; the length where there is none.
-pub(crate) fn first_wrong_sync(frame: &[u8]) -> usize
+// The first place whose sync bit is wrong.
+pub(crate) fn first_wrong_sync(frame: &[u8]) -> Option<usize>
     requires { length frame.now ≤ 162 }
-    ensures { result ≡ first_wrong_sync frame.now }
+    ensures { result ≡ some_below (length frame.now) (first_wrong_sync frame.now) }
 {
     let sync = sync_vector();
-    let mut place = 0;
-    while place < frame.len() {
-        if frame[place] % 2 != sync[place] {
-            return place;
-        }
-        place += 1;
-    }
-    place
+    frame
+        .iter()
+        .zip(&sync)
+        .position(|(symbol, sync_bit)| symbol % 2 != *sync_bit)
 }
 
-// How many symbols have a wrong sync bit.
+// How many symbols have a wrong sync bit. By `filter` and `count` it takes longer: the compiler then
+// counts one symbol at a time.
 pub fn wrong_sync(frame: &[u8]) -> u32
     requires { length frame.now ≡ 162 }
     ensures { result ≡ wrong_sync_in frame.now }
 {
     let sync = sync_vector();
     let mut wrong: u32 = 0;
-    let mut place = 0;
-    while place < frame.len() {
-        let sync_bit = frame[place] % 2;
-        if sync_bit != sync[place] {
+    for (symbol, sync_bit) in frame.iter().zip(&sync) {
+        if *symbol % 2 != *sync_bit {
             wrong += 1;
         }
-        place += 1;
     }
     wrong
 }
@@ -62,30 +50,23 @@ pub fn received_bits(frame: &[u8]) -> [u8; 162]
 {
     let indexes = interleaver::indexes::table();
     let mut received = [0u8; 162];
-    let mut place = 0;
-    while place < 162 {
-        received[indexes[place] as usize] = frame[place] / 2;
-        place += 1;
+    for (symbol, index) in frame.iter().zip(&indexes) {
+        received[usize::from(*index)] = symbol / 2;
     }
     received
 }
 
 // The word of a frame whose symbols and sync bits are right, or that there is none. Only one word
 // may have its data bits: that one is encoded anew, and compared.
-pub(crate) fn word_of_data(frame: &[u8]) -> WordAnswer
-    requires frame_len { length frame.now ≡ 162 }
-    requires bound { 162 ≤ first_large frame.now }
-    requires bound_2 { 162 ≤ first_wrong_sync frame.now }
+pub(crate) fn word_of_data(frame: &[u8]) -> Result<u64, Refusal>
+    requires { RightForm frame.now }
     ensures { result ≡ word_of_data frame.now }
 {
     let received = received_bits(frame);
     let word = convolution::decode(received);
     let coded = convolution::encode(word);
-    if !check::same(&coded, &received) {
-        return WordAnswer::Refused(Refusal {
-            number: NO_WORD,
-            place: 0,
-        });
+    if coded != received {
+        return Err(Refusal::NoWord);
     }
-    WordAnswer::Word(word)
+    Ok(word)
 }

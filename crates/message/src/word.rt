@@ -1,12 +1,11 @@
 // The numbers in a word: the callsign's (01: N), the locator's (01: M1) and the power, both ways.
-ghost use Rattle.std.specs.Prelude.{◌≡◌, ◌≤◌, ◌<◌, ◌^◌, length};
-ghost use Rattle.message.specs.Character.{first_bad};
-ghost use Rattle.message.specs.Word.{callsign_number, locator_number, lower_number, word_from, callsign_part, locator_part, callsign_of, locator_of};
+ghost use Rattle.std.specs.Prelude.{◌≡◌, ◌≤◌, ◌<◌, ◌^◌};
+ghost use Rattle.message.specs.Word.{callsign_number, locator_number, lower_number, word_from, word_of, callsign_part, locator_part, callsign_of, locator_of};
 ghost use Rattle.message.specs.Answer.{word_message};
 
-use super::MessageAnswer;
+use super::Message;
 use super::character::{read_digits, write_characters};
-use refusal::{BAD_LOCATOR_NUMBER, BAD_POWER_BITS, Refusal, WORD_TOO_LARGE};
+use refusal::Refusal;
 
 // The sizes of the sets of places 0 to 5, and how many callsigns they make.
 const CALLSIGN_RADICES: [u64; 6] = [37, 36, 10, 27, 27, 27];
@@ -18,37 +17,42 @@ const LOCATOR_RADICES: [u64; 4] = [18, 10, 18, 10];
 
 const LOCATORS: u64 = 32_400;
 
-// The number of a callsign of legal characters.
-pub(crate) fn callsign_number(callsign: &[u8]) -> u64
-    requires callsign_len { length callsign.now ≡ 6 }
-    requires callsign_value { first_bad 0 callsign.now ≡ 6 }
-    ensures { result ≡ callsign_number callsign.now }
-{
-    let mut digits = [0u64; 6];
-    read_digits(0, callsign, &mut digits);
-    radix::pack(&CALLSIGN_RADICES, &digits)
-}
+impl Message {
+    // The word of the message.
+    pub(crate) fn word(&self) -> u64
+        ensures { result ≡ word_of self.now.callsign self.now.locator self.now.power }
+    {
+        let n = self.callsign_number();
+        let m1 = self.locator_number();
+        assemble(n, m1, self.power)
+    }
 
-// The number of a locator of legal characters.
-pub(crate) fn locator_number(locator: &[u8]) -> u64
-    requires locator_len { length locator.now ≡ 4 }
-    requires locator_value { first_bad 6 locator.now ≡ 10 }
-    ensures { result ≡ locator_number locator.now }
-{
-    let mut values = [0u64; 4];
-    read_digits(6, locator, &mut values);
-    let digits = [17 - values[0], 9 - values[2], values[1], values[3]];
-    radix::pack(&LOCATOR_RADICES, &digits)
+    fn callsign_number(&self) -> u64
+        ensures { result ≡ callsign_number self.now.callsign }
+    {
+        let mut digits = [0u64; 6];
+        read_digits(0, &self.callsign, &mut digits);
+        radix::pack(&CALLSIGN_RADICES, &digits)
+    }
+
+    fn locator_number(&self) -> u64
+        ensures { result ≡ locator_number self.now.locator }
+    {
+        let mut values = [0u64; 4];
+        read_digits(6, &self.locator, &mut values);
+        let digits = [17 - values[0], 9 - values[2], values[1], values[3]];
+        radix::pack(&LOCATOR_RADICES, &digits)
+    }
 }
 
 // The word, from its upper 28 and lower 22 bits.
-pub(crate) fn assemble(callsign: u64, locator: u64, power: u32) -> u64
+fn assemble(callsign: u64, locator: u64, power: u32) -> u64
     requires callsign_bound { callsign < 2 ^ 28 }
     requires locator_bound { locator < 32_400 }
     requires power_bound { power ≤ 60 }
     ensures { result ≡ word_from callsign (lower_number locator power) }
 {
-    let lower = locator * 128 + power as u64 + 64;
+    let lower = locator * 128 + u64::from(power) + 64;
     (callsign << 22) | lower
 }
 
@@ -68,48 +72,41 @@ fn locator_part(word: u64) -> u64
 
 // The power of a word that is a message's, or why it isn't. A word of 2^50 or more has a callsign
 // number past the end too, so that one test serves for both.
-pub(crate) fn power_of(word: u64) -> MessageAnswer
+pub(crate) fn power_of(word: u64) -> Result<u32, Refusal>
     ensures { result ≡ word_message word }
 {
     if CALLSIGNS <= callsign_part(word) {
-        return MessageAnswer::Refused(Refusal {
-            number: WORD_TOO_LARGE,
-            place: 0,
-        });
+        return Err(Refusal::WordTooLarge);
     }
     if LOCATORS <= locator_part(word) {
-        return MessageAnswer::Refused(Refusal {
-            number: BAD_LOCATOR_NUMBER,
-            place: 0,
-        });
+        return Err(Refusal::BadLocatorNumber);
     }
     let bits = (word % 128) as u32;
     if bits < 64 || !power::is_legal(bits - 64) {
-        return MessageAnswer::Refused(Refusal {
-            number: BAD_POWER_BITS,
-            place: 0,
-        });
+        return Err(Refusal::BadPowerBits);
     }
-    MessageAnswer::Power(bits - 64)
+    Ok(bits - 64)
 }
 
-// Writes the callsign of a word.
-pub(crate) fn write_callsign(word: u64, callsign: &mut [u8])
-    requires { length callsign.old ≡ 6 }
-    ensures { callsign.new ≡ callsign_of word }
+// The callsign of a word.
+pub(crate) fn callsign_of(word: u64) -> [u8; 6]
+    ensures { result ≡ callsign_of word }
 {
     let mut digits = [0u64; 6];
     radix::unpack(callsign_part(word), &CALLSIGN_RADICES, &mut digits);
-    write_characters(0, &digits, callsign);
+    let mut callsign = [b' '; 6];
+    write_characters(0, &digits, &mut callsign);
+    callsign
 }
 
-// Writes the locator of a word.
-pub(crate) fn write_locator(word: u64, locator: &mut [u8])
-    requires { length locator.old ≡ 4 }
-    ensures { locator.new ≡ locator_of word }
+// The locator of a word.
+pub(crate) fn locator_of(word: u64) -> [u8; 4]
+    ensures { result ≡ locator_of word }
 {
     let mut digits = [0u64; 4];
     radix::unpack(locator_part(word), &LOCATOR_RADICES, &mut digits);
     let values = [17 - digits[0], digits[2], 9 - digits[1], digits[3]];
-    write_characters(6, &values, locator);
+    let mut locator = [b' '; 4];
+    write_characters(6, &values, &mut locator);
+    locator
 }

@@ -1,14 +1,17 @@
 // The 19 legal powers, in dBm, and their indexes.
-#![tactic(auto)]
+// A decision each way and no table that is searched: a project rule names this form for the powers. The
+// attribute names the definitions that the proofs of all three may open.
+#![tactic(auto, unfolding(basics::specs::Lists::first_failing, basics::specs::Lists::index_in, basics::specs::Lists::some_below, crate::specs::Powers::powers, crate::specs::Powers::power_index, crate::specs::Powers::power_at, crate::specs::Powers::legal_power))]
 
 ghost use Rattle.std.specs.Prelude.{◌≡◌};
+ghost use Rattle.basics.specs.Lists.{some_below};
 ghost use Rattle.power.specs.Powers.{power_index, power_at, legal_power};
 
-// The index of a power, 0 to 18; 19 where it isn't legal.
-pub fn index_of(power: u32) -> u32
-    ensures { result ≡ power_index power }
+// The index of a power, 0 to 18; none where it isn't legal.
+pub fn index_of(power: u32) -> Option<u32>
+    ensures { result ≡ some_below 19 (power_index power) }
 {
-    match power {
+    let index = match power {
         0 => 0,
         3 => 1,
         7 => 2,
@@ -28,18 +31,20 @@ pub fn index_of(power: u32) -> u32
         53 => 16,
         57 => 17,
         60 => 18,
-        _ => 19,
-    }
+        _ => return None,
+    };
+    Some(index)
 }
 
 // The power is one of the 19.
 pub fn is_legal(power: u32) -> bool
     ensures { result ≡ legal_power power }
 {
-    index_of(power) < 19
+    index_of(power).is_some()
 }
 
 // The power with an index from 0 to 18; 0 past them.
+// No Option: it can't fail, and its definition has the 0.
 pub fn power_at(index: u32) -> u32
     ensures { result ≡ power_at index }
 {

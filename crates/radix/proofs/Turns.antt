@@ -1,24 +1,20 @@
--- One turn of the loops of `pack` and `unpack`, over lists: at an index the lists go on with the radix and the digit there.
-use mathlib.Core.Path.{◌≡◌, sym, ap, ◌∙◌}
-use Prim.Native.Nat.{ℕ, zero, suc, ◌+◌, ◌-◌, ◌*◌, ◌/◌, ◌%◌, ◌^◌, ◌≤◌, ◌<◌}
-use native.Mathlib.Nat.{le_of_eq, not-suc-le-zero, mul-le-mul_left, mul_comm, div-one, div-div-eq-div-mul}
-use native.Mathlib.Numerals.{add-one, sub-one}
+-- One turn of the loops of `pack` and `unpack`, over the radices that are left.
+use mathlib.Core.Path.{◌≡◌, ◌∙◌}
+use Prim.Native.Nat.{ℕ, ◌+◌, ◌*◌, ◌/◌, ◌%◌, ◌^◌, ◌≤◌, ◌<◌}
+use native.Mathlib.Nat.{mul-le-mul_left, mul_comm, mul-one, div-one, div-div-eq-div-mul}
 use native.Mathlib.Omega.{arith}
-use mathlib.Core.List.{List, [], ◌∷◌}
-use lib.ListN.{length, get_or, drop, set, length-set, drop_of_length-le}
-use lib.Seq.{drop-cons, drop-length, drop-set-lt, get_or-set_same}
+use mathlib.Core.List.{List, [], ◌∷◌, ◌++◌}
+use lib.ListN.{length, drop, set, length-set, length-append}
+use Rattle.std.proofs.lemmas.List.{append_assoc, drop-set}
 use Rattle.radix.specs.Numeral.{Digits, Positive, count, number_from, number_of, digits_of}
-use Rattle.radix.proofs.Laws.{digits_length, digits_positive, count_positive, number_from_front, number_below}
+use Rattle.radix.proofs.Laws.{digits_positive, count_positive, count_append, number_from_front, number_below, digits_of_append}
 
 -- ---- pack
 
-digits_drop : (i : ℕ) (rs ds : List ℕ) → Digits rs ds → Digits (drop i rs) (drop i ds)
-unfolding Digits
-digits_drop zero rs ds h = h
-digits_drop (suc i) [] [] h = h
-digits_drop (suc i) [] (d ∷ ds) h = absurd h
-digits_drop (suc i) (r ∷ rs) [] h = absurd h
-digits_drop (suc i) (r ∷ rs) (d ∷ ds) h = digits_drop i rs ds h.1
+-- Before a turn: the number so far and the radices and digits that are left make the number of all the digits.
+pub record Packing (radices digits : List ℕ) (number : ℕ) (rs ds : List ℕ) : Type 0 where
+  pub digits_left : Digits rs ds
+  pub whole : number_from number rs ds ≡ number_of radices digits
 
 grows : (n : ℕ) (rs ds : List ℕ) → Digits rs ds → n ≤ number_from n rs ds
 grows n rs ds h =
@@ -26,64 +22,59 @@ grows n rs ds h =
     let more : n * 1 ≤ n * count rs = mul-le-mul_left n (count_positive rs (digits_positive rs ds h)) in
     omega arith
 
-module _ (rs ds : List ℕ) (h : Digits rs ds) (n i : ℕ) (within : i < length rs) where
-  pub pack_turn : number_from n (drop i rs) (drop i ds)
-      ≡ number_from (n * get_or rs i 0 + get_or ds i 0) (drop (i + 1) rs) (drop (i + 1) ds)
-  unfolding number_from
+module _ {radices digits : List ℕ} {n r d : ℕ} {rs ds later_rs later_ds : List ℕ} (next : (rs ≡ r ∷ later_rs) × (ds ≡ d ∷ later_ds))
+    (now : Packing radices digits n rs ds) where
+  pub pack_turn : Packing radices digits (n * r + d) later_rs later_ds
+  unfolding Digits number_from
   pack_turn =
-      let within_digits : i < length ds = omega (arith, digits_length rs ds h) in
-      rw (add-one, drop-cons rs i 0, drop-cons ds i 0)
+      let split : Packing radices digits n (r ∷ later_rs) (d ∷ later_ds) = rw (← next.0, ← next.1) now in
+      record { digits_left = split.digits_left.1; whole = split.whole }
 
-  pub pack_fits : number_from n (drop i rs) (drop i ds) ≡ number_of rs ds → count rs ≤ 2 ^ 64
-      → n * get_or rs i 0 + get_or ds i 0 < 2 ^ 64
-  pack_fits e room =
-      let next = grows (n * get_or rs i 0 + get_or ds i 0) (drop (i + 1) rs) (drop (i + 1) ds) (digits_drop (i + 1) rs ds h) in
-      let below = number_below rs ds h in
-      omega (arith, pack_turn)
-
-pub pack_ends : (n i : ℕ) (rs ds : List ℕ) → length rs ≤ i → number_from n (drop i rs) (drop i ds) ≡ n
-unfolding number_from
-pack_ends n i rs ds h = rw (drop_of_length-le rs h)
+  -- The number with one digit more has room.
+  pub pack_fits : Digits radices digits → count radices ≤ 2 ^ 64 → n * r + d < 2 ^ 64
+  pack_fits h room =
+      omega (arith, grows (n * r + d) later_rs later_ds pack_turn.digits_left, number_below radices digits h, pack_turn.whole)
 
 -- ---- unpack
 
-pub positive_at : (rs : List ℕ) (i : ℕ) → Positive rs → i < length rs → 0 < get_or rs i 0
+-- Before a turn: the digits by the radices that are left, of what is left of the number, and those that are written behind make all its
+-- digits; and divided by the radices that are left, what is left of the number is its quotient by all of them.
+pub record Unpacking (radices : List ℕ) (number : ℕ) (digits : List ℕ) (rest : ℕ) (left : List ℕ) : Type 0 where
+  pub positive : Positive left
+  pub within : length left ≤ length digits
+  pub quotient : rest / count left ≡ number / count radices
+  pub written : digits_of left rest ++ drop (length left) digits ≡ digits_of radices number
+
+-- The last of the radices that are left.
+positive_last : (rs : List ℕ) (r : ℕ) → Positive (rs ++ (r ∷ [])) → Positive rs × (0 < r)
 unfolding Positive
-positive_at [] i h k = omega arith
-positive_at (r ∷ rs) zero h k = h.0
-positive_at (r ∷ rs) (suc i) h k = positive_at rs i h.1 (omega arith)
+positive_last [] r h = (tt, h.0)
+positive_last (q ∷ rs) r h = let later = positive_last rs r h.1 in ((h.0, later.0), later.1)
 
--- Before a turn: the digits from i on are those of the number, and what is left of it is its quotient by the radices from i on.
-pub record Unpacking (number : ℕ) (rs ds : List ℕ) (left i : ℕ) : Type 0 where
-  pub within : i ≤ length rs
-  pub same : length ds ≡ length rs
-  pub quotient : left ≡ number / count (drop i rs)
-  pub done : drop i ds ≡ digits_of (drop i rs) number
+module _ {radices : List ℕ} {number : ℕ} {digits : List ℕ} {rest : ℕ} {left : List ℕ} (before : List ℕ) (r : ℕ) (next : left ≡ before ++ (r ∷ []))
+    (now : Unpacking radices number digits rest left) where
+  split : Unpacking radices number digits rest (before ++ (r ∷ []))
+  split = rw (← next) now
 
-pub unpack_starts : (number : ℕ) (rs ds : List ℕ) → length ds ≡ length rs → Unpacking number rs ds number (length rs)
+  pub radix_positive : 0 < r
+  radix_positive = (positive_last before r split.positive).1
+
+  pub unpack_turn : (i : ℕ) → i ≡ length before → Unpacking radices number (set digits i (rest % r)) (rest / r) before
+  unfolding count digits_of
+  unpack_turn i e =
+      let long : length (before ++ (r ∷ [])) ≡ length before + 1 = length-append before (r ∷ []) in
+      let room : length before < length digits = omega (arith, split.within) in
+      let divided : rest / r / count before ≡ rest / count (before ++ (r ∷ [])) =
+      rw (count_append before (r ∷ []), mul-one, mul_comm (count before) r) (div-div-eq-div-mul rest r (count before)) in
+      rw e (record {
+        positive = (positive_last before r split.positive).0;
+        within = rw length-set (omega arith);
+        quotient = divided ∙ split.quotient;
+        written = rw (drop-set digits (length before) (rest % r) room, ← split.written, long, digits_of_append, mul-one, div-one, append_assoc);
+      })
+
+pub unpack_ends : (radices : List ℕ) (number : ℕ) (digits : List ℕ) (rest : ℕ) (left : List ℕ) → length left ≡ 0
+    → Unpacking radices number digits rest left → (rest ≡ number / count radices) × (digits ≡ digits_of radices number)
 unfolding count digits_of
-unpack_starts number rs ds e = record {
-  within = omega arith;
-  same = e;
-  quotient = rw (drop-length rs) (sym (div-one number));
-  done = rw (drop-length rs, drop_of_length-le ds (le_of_eq e));
-}
-
-pub unpack_turn : (number : ℕ) (rs ds : List ℕ) (left i : ℕ) → 0 < i → Unpacking number rs ds left i
-    → Unpacking number rs (set ds (i - 1) (left % get_or rs (i - 1) 0)) (left / get_or rs (i - 1) 0) (i - 1)
-unfolding count digits_of
-unpack_turn number rs ds left zero h u = absurd (not-suc-le-zero h)
-unpack_turn number rs ds left (suc k) h u =
-    let v = left % get_or rs k 0 in
-    let in_radices : k < length rs = u.within in
-    let in_digits : k < length ds = omega (arith, u.same) in
-    let in_set : k < length (set ds k v) = simp length-set in_digits in
-    let step = div-div-eq-div-mul number (count (drop (suc k) rs)) (get_or rs k 0)
-    ∙ ap (λ (n : ℕ). number / n) (mul_comm (count (drop (suc k) rs)) (get_or rs k 0)) in
-    rw sub-one (record {
-      within = omega arith;
-      same = length-set ds k v ∙ u.same;
-      quotient = rw (u.quotient, drop-cons rs k 0) step;
-      done = drop-cons (set ds k v) k 0 in_set
-          ∙ rw (get_or-set_same ds k v 0 in_digits, drop-set-lt (suc k) ds k v (omega arith), u.done, u.quotient, drop-cons rs k 0);
-    })
+unpack_ends radices number digits rest [] e now = (rw div-one at now.quotient, now.written)
+unpack_ends radices number digits rest (r ∷ rs) e now = absurd (omega arith)

@@ -10,16 +10,15 @@ ghost use Rattle.radix.specs.Numeral.{Digits, Positive, count, number_of, digits
 
 // The number that the digits write: from the highest digit on, times the next radix plus the next
 // digit.
+#[tactic(auto, unfolding(crate::specs::Numeral::number_of))]
 pub fn pack(radices: &[u64], digits: &[u64]) -> u64
     requires digits { Digits radices.now digits.now }
     requires radices_bound { count radices.now ≤ 2 ^ 64 }
     ensures { result ≡ number_of radices.now digits.now }
 {
     let mut number = 0u64;
-    let mut i = 0;
-    while i < radices.len() {
-        number = number * radices[i] + digits[i];
-        i += 1;
+    for (&radix, &digit) in radices.iter().zip(digits) {
+        number = number * radix + digit;
     }
     number
 }
@@ -33,12 +32,10 @@ pub fn unpack(number: u64, radices: &[u64], digits: &mut [u64]) -> u64
     ensures written { digits.new ≡ digits_of radices.now number }
 {
     let mut rest = number;
-    let mut i = radices.len();
-    while 0 < i {
-        i -= 1;
-        let radix = radices[i];
+    // Written by index: of what a loop over `iter_mut` in a `zip` has written a proof knows nothing.
+    for (i, &radix) in radices.iter().enumerate().rev() {
         digits[i] = rest % radix;
-        rest = rest / radix;
+        rest /= radix;
     }
     rest
 }

@@ -1,2 +1,2 @@
--- `Refusals`: the numbers of the table of refusals by name.
+-- `Refusals`: the table of refusals, its numbers by name, and the number and the place of a refusal.
 pub mod Refusals

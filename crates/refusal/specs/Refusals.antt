@@ -1,13 +1,8 @@
--- The numbers of 01's table of refusals by name. A refusal is such a number and a place.
-use Rattle.std.specs.Prelude.{ℕ}
+-- The numbers of 01's table of refusals by name, and the number and the place of each refusal.
+use Rattle.std.specs.Prelude.{ℕ, ◌-◌, List, [], ◌∷◌, get_or, Result, Ok, Err}
 use Rattle.refusal.specs.declared.Refusal.{Refusal}
 
-abbrev pub refusal : ℕ → ℕ → Refusal
-refusal number place = record { number = number; place = place }
-
--- What stands in its place where nothing is refused: number and place are 0.
-abbrev pub success : Refusal
-success = refusal 0 0
+-- ---- The numbers by name
 
 -- "a lent buffer hasn't its exact length (call 6, locator 4, frame 162)"
 abbrev pub wrong_length : ℕ
@@ -102,3 +97,90 @@ bad_slot_or_type = 22
 -- "number left over above the fields"
 abbrev pub number_left_over : ℕ
 number_left_over = 23
+
+-- ---- The number and the place of a refusal
+
+abbrev pub refusal_number : Refusal → ℕ
+refusal_number Refusal.WrongLength = wrong_length
+refusal_number (Refusal.BadCharacter place) = bad_character
+refusal_number Refusal.BadPower = bad_power
+refusal_number Refusal.WordTooLarge = word_too_large
+refusal_number Refusal.BadLocatorNumber = bad_locator_number
+refusal_number Refusal.BadPowerBits = bad_power_bits
+refusal_number (Refusal.SymbolTooLarge place) = symbol_too_large
+refusal_number (Refusal.WrongSync place) = wrong_sync
+refusal_number Refusal.NoWord = no_word
+refusal_number (Refusal.NotTelemetry place) = not_telemetry
+refusal_number Refusal.ExtendedTelemetry = extended_telemetry
+refusal_number Refusal.BadPositionNumber = bad_position_number
+refusal_number Refusal.BadSensorNumber = bad_sensor_number
+refusal_number (Refusal.OutOfRange place) = out_of_range
+refusal_number (Refusal.BadBound place) = bad_bound
+refusal_number Refusal.OverBudget = over_budget
+refusal_number Refusal.NoneWithinLimit = none_within_limit
+refusal_number Refusal.SharedFewest = shared_fewest
+refusal_number Refusal.BadFieldTable = bad_field_table
+refusal_number Refusal.NotExtended = not_extended
+refusal_number Refusal.ReservedNotZero = reserved_not_zero
+refusal_number Refusal.BadSlotOrType = bad_slot_or_type
+refusal_number Refusal.NumberLeftOver = number_left_over
+
+-- 0 where it names none.
+abbrev pub refusal_place : Refusal → ℕ
+refusal_place (Refusal.BadCharacter place) = place
+refusal_place (Refusal.SymbolTooLarge place) = place
+refusal_place (Refusal.WrongSync place) = place
+refusal_place (Refusal.NotTelemetry place) = place
+refusal_place (Refusal.OutOfRange place) = place
+refusal_place (Refusal.BadBound place) = place
+refusal_place other = 0
+
+-- Number and place; both are 0 where nothing is refused.
+pub record RefusalNumbers : Type 0 where
+  pub number : ℕ
+  pub place : ℕ
+
+abbrev pub success : RefusalNumbers
+success = record { number = 0; place = 0 }
+
+abbrev pub numbers_of : Refusal → RefusalNumbers
+numbers_of f = record { number = refusal_number f; place = refusal_place f }
+
+-- ---- Back: the refusal with a number from 1 to 23, at a place where it names one
+
+-- All of them, in the order of their numbers.
+unfoldable pub refusals : ℕ → List Refusal
+refusals place =
+    Refusal.WrongLength ∷
+    Refusal.BadCharacter place ∷
+    Refusal.BadPower ∷
+    Refusal.WordTooLarge ∷
+    Refusal.BadLocatorNumber ∷
+    Refusal.BadPowerBits ∷
+    Refusal.SymbolTooLarge place ∷
+    Refusal.WrongSync place ∷
+    Refusal.NoWord ∷
+    Refusal.NotTelemetry place ∷
+    Refusal.ExtendedTelemetry ∷
+    Refusal.BadPositionNumber ∷
+    Refusal.BadSensorNumber ∷
+    Refusal.OutOfRange place ∷
+    Refusal.BadBound place ∷
+    Refusal.OverBudget ∷
+    Refusal.NoneWithinLimit ∷
+    Refusal.SharedFewest ∷
+    Refusal.BadFieldTable ∷
+    Refusal.NotExtended ∷
+    Refusal.ReservedNotZero ∷
+    Refusal.BadSlotOrType ∷
+    Refusal.NumberLeftOver ∷
+    []
+
+unfoldable pub refusal_from : ℕ → ℕ → Refusal
+refusal_from number place = get_or (refusals place) (number - 1) Refusal.NumberLeftOver
+
+-- ---- The answer is a refusal
+
+abbrev pub Refused : {A : Type 0} → Result A Refusal → Type 0
+Refused (Ok a) = ⊥
+Refused (Err f) = Unit

@@ -6,18 +6,18 @@ use native.Mathlib.Omega.{arith}
 use mathlib.Core.List.{List}
 use lib.ListN.{length}
 use borrow.Author.Tests.{eq-eqb, ne_eqb, lt-ltb, le-ltb, leb-true, leb-false}
+use Rattle.std.specs.Prelude.{Result, Err}
 use Rattle.basics.proofs.Choice.{below_or_not, equal_or_not}
 use Rattle.basics.proofs.ListLaws.{fails_at, passes_before_first}
 use Rattle.refusal.specs.declared.Refusal.{Refusal}
-use Rattle.refusal.specs.Refusals.{refusal, wrong_length, symbol_too_large, bad_bound}
+use Rattle.refusal.specs.Refusals.{refusal_number}
 use Rattle.frame.specs.Symbols.{RightSymbols}
 use Rattle.frame.specs.Answer.{is_symbol, first_large}
 use Rattle.frame.proofs.SymbolLaws.{symbols_of_test}
-use Rattle.repair.specs.Answer.{first_bad_bound, searched, frame_repaired, repair_numbers}
+use Rattle.repair.specs.Answer.{first_bad_bound, searched, frame_repaired}
 use Rattle.repair.specs.Demand.{Bounds, FirstLargeAt, AsChecked}
 use Rattle.repair.specs.declared.Nearest.{Nearest}
-use Rattle.repair.specs.declared.RepairAnswer.{RepairAnswer}
-use Rattle.repair.proofs.AnswerLaws.{refused_not_word, number_same, repaired_searched, searched_refusal}
+use Rattle.repair.proofs.AnswerLaws.{OfSearch, of_search, repaired_searched}
 use Rattle.repair.proofs.BoundLaws.{bad_limit_first, bad_budget_next, no_bad_bound}
 
 -- ---- The first symbol above 3
@@ -39,49 +39,34 @@ module _ (frame : List ℕ) where
       (λ less. absurd (omega (arith, a.large, b.none_before p less)))
       (λ no_less. below_or_not q p (λ less. absurd (omega (arith, b.large, a.none_before q less))) (λ same. omega arith))
 
--- ---- Refusals that differ
-
-place_same : (f g : Refusal) → RepairAnswer.Refused f ≡ RepairAnswer.Refused g → f.place ≡ g.place
-unfolding repair_numbers
-place_same f g e = ap (λ (a : RepairAnswer). (repair_numbers a).place) e
-
--- Two refusals are the same only by number and place.
-differs : {Q : Type 0} (f g : Refusal) → ((f.number ≡ g.number) × (f.place ≡ g.place) → ⊥) → RepairAnswer.Refused f ≡ RepairAnswer.Refused g → Q
-unfolding repair_numbers
-differs f g other e = absurd (other (number_same _ _ e, place_same f g e))
-
 -- ---- The cases
 
 module _ (frame : List ℕ) (limit budget : ℕ) where
   abbrev BadBudget : Type 0
   BadBudget = (limit ≤ 12) × ((budget ≡ 0) ⊎ (65_536 < budget))
 
-  pub repaired_length : (length frame ≡ 162 → ⊥) → frame_repaired frame limit budget ≡ RepairAnswer.Refused (refusal wrong_length 0)
+  pub repaired_length : (length frame ≡ 162 → ⊥) → frame_repaired frame limit budget ≡ Err Refusal.WrongLength
   unfolding frame_repaired
   repaired_length other = rw (ne_eqb (length frame) 162 other)
 
   module _ (long : length frame ≡ 162) where
-    pub repaired_bound : first_bad_bound limit budget < 2 → frame_repaired frame limit budget ≡ RepairAnswer.Refused (refusal bad_bound (first_bad_bound limit budget))
+    pub repaired_bound : (place : ℕ) → first_bad_bound limit budget ≡ place → place < 2
+        → frame_repaired frame limit budget ≡ Err (Refusal.BadBound place)
     unfolding frame_repaired
-    repaired_bound bad = rw (eq-eqb (length frame) 162 long, lt-ltb (first_bad_bound limit budget) 2 bad)
+    repaired_bound place e bad = rw (eq-eqb (length frame) 162 long, e, lt-ltb place 2 bad)
 
     pub repaired_large : 2 ≤ first_bad_bound limit budget → first_large frame < 162
-        → frame_repaired frame limit budget ≡ RepairAnswer.Refused (refusal symbol_too_large (first_large frame))
+        → frame_repaired frame limit budget ≡ Err (Refusal.SymbolTooLarge (first_large frame))
     unfolding frame_repaired
     repaired_large good large =
         rw (eq-eqb (length frame) 162 long, le-ltb (first_bad_bound limit budget) 2 good, lt-ltb (first_large frame) 162 large)
 
-  bound_refused : (place : ℕ) → first_bad_bound limit budget ≡ place → place < 2 → length frame ≡ 162
-      → frame_repaired frame limit budget ≡ RepairAnswer.Refused (refusal bad_bound place)
-  bound_refused place e h long =
-      repaired_bound long (omega arith) ∙ ap (λ (p : ℕ). RepairAnswer.Refused (refusal bad_bound p)) e
-
   -- What holds of the answer in each case holds of it.
-  by_check : (P : RepairAnswer → Type 0)
-      → ((length frame ≡ 162 → ⊥) → P (RepairAnswer.Refused (refusal wrong_length 0)))
-      → (length frame ≡ 162 → 12 < limit → P (RepairAnswer.Refused (refusal bad_bound 0)))
-      → (length frame ≡ 162 → BadBudget → P (RepairAnswer.Refused (refusal bad_bound 1)))
-      → (length frame ≡ 162 → Bounds limit budget → FirstLargeAt frame (first_large frame) → P (RepairAnswer.Refused (refusal symbol_too_large (first_large frame))))
+  by_check : (P : Result Nearest Refusal → Type 0)
+      → ((length frame ≡ 162 → ⊥) → P (Err Refusal.WrongLength))
+      → (length frame ≡ 162 → 12 < limit → P (Err (Refusal.BadBound 0)))
+      → (length frame ≡ 162 → BadBudget → P (Err (Refusal.BadBound 1)))
+      → (length frame ≡ 162 → Bounds limit budget → FirstLargeAt frame (first_large frame) → P (Err (Refusal.SymbolTooLarge (first_large frame))))
       → (RightSymbols frame → Bounds limit budget → P (searched frame limit budget))
       → P (frame_repaired frame limit budget)
   by_check P short limit_bad budget_bad large right =
@@ -95,9 +80,9 @@ module _ (frame : List ℕ) (limit budget : ℕ) where
       (λ some. below_or_not 65_536 budget (λ more. bad_budget long (limit-good, inr more)) (λ budget-good. checked_bounds long (bounded limit-good some budget-good)))))
       (λ other. rw (repaired_length other) (short other))
     where
-      at_bound : length frame ≡ 162 → (place : ℕ) → first_bad_bound limit budget ≡ place → place < 2 → P (RepairAnswer.Refused (refusal bad_bound place))
+      at_bound : length frame ≡ 162 → (place : ℕ) → first_bad_bound limit budget ≡ place → place < 2 → P (Err (Refusal.BadBound place))
           → P (frame_repaired frame limit budget)
-      at_bound long place e h p = rw (bound_refused place e h long) p
+      at_bound long place e h p = rw (repaired_bound long place e h) p
 
       bad_budget : length frame ≡ 162 → BadBudget → P (frame_repaired frame limit budget)
       bad_budget long bad = at_bound long 1 (bad_budget_next limit budget bad.0 bad.1) (omega arith) (budget_bad long bad)
@@ -117,93 +102,73 @@ module _ (frame : List ℕ) (limit budget : ℕ) where
 
   -- ---- Each exactly when it applies
 
-  not_searched : {Q : Type 0} (f : Refusal) → f.number < 16 → searched frame limit budget ≡ RepairAnswer.Refused f → Q
-  not_searched f h e = absurd (omega (arith, searched_refusal frame limit budget f e))
+  not_searched : {Q : Type 0} (f : Refusal) → refusal_number f < 16 → searched frame limit budget ≡ Err f → Q
+  not_searched f h e = absurd (omega (arith, rw e at (of_search frame limit budget)))
 
-  length_told : frame_repaired frame limit budget ≡ RepairAnswer.Refused (refusal wrong_length 0) → length frame ≡ 162 → ⊥
+  length_told : frame_repaired frame limit budget ≡ Err Refusal.WrongLength → length frame ≡ 162 → ⊥
   length_told =
-      by_check (λ a. a ≡ RepairAnswer.Refused (refusal wrong_length 0) → length frame ≡ 162 → ⊥)
+      by_check (λ a. a ≡ Err Refusal.WrongLength → length frame ≡ 162 → ⊥)
       (λ other e. other)
-      (λ long more. differs _ _ (λ same. omega (arith, same.0)))
-      (λ long bad. differs _ _ (λ same. omega (arith, same.0)))
-      (λ long bounds first. differs _ _ (λ same. omega (arith, same.0)))
+      (λ long more e. absurd cc)
+      (λ long bad e. absurd cc)
+      (λ long bounds first e. absurd cc)
       (λ right bounds. not_searched _ (omega arith))
 
-  limit_told : frame_repaired frame limit budget ≡ RepairAnswer.Refused (refusal bad_bound 0) → (length frame ≡ 162) × (12 < limit)
+  limit_told : frame_repaired frame limit budget ≡ Err (Refusal.BadBound 0) → (length frame ≡ 162) × (12 < limit)
   limit_told =
-      by_check (λ a. a ≡ RepairAnswer.Refused (refusal bad_bound 0) → (length frame ≡ 162) × (12 < limit))
-      (λ other. differs _ _ (λ same. omega (arith, same.0)))
+      by_check (λ a. a ≡ Err (Refusal.BadBound 0) → (length frame ≡ 162) × (12 < limit))
+      (λ other e. absurd cc)
       (λ long more e. (long, more))
-      (λ long bad. differs _ _ (λ same. omega (arith, same.1)))
-      (λ long bounds first. differs _ _ (λ same. omega (arith, same.0)))
+      (λ long bad e. absurd cc)
+      (λ long bounds first e. absurd cc)
       (λ right bounds. not_searched _ (omega arith))
 
-  budget_told : frame_repaired frame limit budget ≡ RepairAnswer.Refused (refusal bad_bound 1) → (length frame ≡ 162) × BadBudget
+  budget_told : frame_repaired frame limit budget ≡ Err (Refusal.BadBound 1) → (length frame ≡ 162) × BadBudget
   budget_told =
-      by_check (λ a. a ≡ RepairAnswer.Refused (refusal bad_bound 1) → (length frame ≡ 162) × BadBudget)
-      (λ other. differs _ _ (λ same. omega (arith, same.0)))
-      (λ long more. differs _ _ (λ same. omega (arith, same.1)))
+      by_check (λ a. a ≡ Err (Refusal.BadBound 1) → (length frame ≡ 162) × BadBudget)
+      (λ other e. absurd cc)
+      (λ long more e. absurd cc)
       (λ long bad e. (long, bad))
-      (λ long bounds first. differs _ _ (λ same. omega (arith, same.0)))
+      (λ long bounds first e. absurd cc)
       (λ right bounds. not_searched _ (omega arith))
 
-  symbol_told : (place : ℕ) → frame_repaired frame limit budget ≡ RepairAnswer.Refused (refusal symbol_too_large place)
+  symbol_told : (place : ℕ) → frame_repaired frame limit budget ≡ Err (Refusal.SymbolTooLarge place)
       → (length frame ≡ 162) × (Bounds limit budget × FirstLargeAt frame place)
   symbol_told place =
-      by_check (λ a. a ≡ RepairAnswer.Refused (refusal symbol_too_large place) → (length frame ≡ 162) × (Bounds limit budget × FirstLargeAt frame place))
-      (λ other. differs _ _ (λ same. omega (arith, same.0)))
-      (λ long more. differs _ _ (λ same. omega (arith, same.0)))
-      (λ long bad. differs _ _ (λ same. omega (arith, same.0)))
-      (λ long bounds first e. (long, (bounds, rw (place_same _ _ e) at first)))
+      by_check (λ a. a ≡ Err (Refusal.SymbolTooLarge place) → (length frame ≡ 162) × (Bounds limit budget × FirstLargeAt frame place))
+      (λ other e. absurd cc)
+      (λ long more e. absurd cc)
+      (λ long bad e. absurd cc)
+      (λ long bounds first e.
+      let same : first_large frame ≡ place = cc in
+      (long, (bounds, rw same at first)))
       (λ right bounds. not_searched _ (omega arith))
 
   symbol_refused : (place : ℕ) → (length frame ≡ 162) × (Bounds limit budget × FirstLargeAt frame place)
-      → frame_repaired frame limit budget ≡ RepairAnswer.Refused (refusal symbol_too_large place)
+      → frame_repaired frame limit budget ≡ Err (Refusal.SymbolTooLarge place)
   symbol_refused place (long, (bounds, first)) =
       below_or_not (first_large frame) 162
       (λ large.
       let same = only_first frame (first_large frame) place (is_first_large frame (rw long large)) first in
       repaired_large long (omega (arith, no_bad_bound limit budget bounds)) large
-      ∙ ap (λ (p : ℕ). RepairAnswer.Refused (refusal symbol_too_large p)) same)
+      ∙ ap (λ (p : ℕ). Err (Refusal.SymbolTooLarge p)) same)
       (λ none. absurd (omega (arith, (symbols_of_test frame long none).symbols_to_3 place (omega (arith, first.within)), first.large)))
 
-  -- A refusal's number is above 0.
-  pub refusal_number : (f : Refusal) → frame_repaired frame limit budget ≡ RepairAnswer.Refused f → 0 < f.number
-  unfolding repair_numbers
-  refusal_number f =
-      by_check (λ a. a ≡ RepairAnswer.Refused f → 0 < f.number)
-      (λ other e. omega (arith, number_same _ _ e))
-      (λ long more e. omega (arith, number_same _ _ e))
-      (λ long bad e. omega (arith, number_same _ _ e))
-      (λ long bounds first e. omega (arith, number_same _ _ e))
-      (λ right bounds e. omega (arith, searched_refusal frame limit budget f e))
-
-  -- 16 and above, and a word, are given only where symbols, limit and budget are as they should be.
-  pub refusal_searched : (f : Refusal) → 16 ≤ f.number → frame_repaired frame limit budget ≡ RepairAnswer.Refused f
-      → RightSymbols frame × Bounds limit budget
-  unfolding repair_numbers
-  refusal_searched f h =
-      by_check (λ a. a ≡ RepairAnswer.Refused f → RightSymbols frame × Bounds limit budget)
-      (λ other e. absurd (omega (arith, number_same _ _ e)))
-      (λ long more e. absurd (omega (arith, number_same _ _ e)))
-      (λ long bad e. absurd (omega (arith, number_same _ _ e)))
-      (λ long bounds first e. absurd (omega (arith, number_same _ _ e)))
-      (λ right bounds e. (right, bounds))
-
-  pub word_searched : (n : Nearest) → frame_repaired frame limit budget ≡ RepairAnswer.Word n → RightSymbols frame × Bounds limit budget
-  word_searched n =
-      by_check (λ a. a ≡ RepairAnswer.Word n → RightSymbols frame × Bounds limit budget)
-      (λ other e. absurd (refused_not_word _ n e))
-      (λ long more e. absurd (refused_not_word _ n e))
-      (λ long bad e. absurd (refused_not_word _ n e))
-      (λ long bounds first e. absurd (refused_not_word _ n e))
-      (λ right bounds e. (right, bounds))
+  -- What only a search gives is given only where symbols, limit and budget are as they should be.
+  pub right_searched : OfSearch (frame_repaired frame limit budget) → RightSymbols frame × Bounds limit budget
+  right_searched =
+      by_check (λ a. OfSearch a → RightSymbols frame × Bounds limit budget)
+      (λ other late. absurd (omega arith))
+      (λ long more late. absurd (omega arith))
+      (λ long bad late. absurd (omega arith))
+      (λ long bounds first late. absurd (omega arith))
+      (λ right bounds late. (right, bounds))
 
   pub checked : AsChecked frame limit budget (frame_repaired frame limit budget)
   checked =
       record {
         when_wrong_length = (length_told, repaired_length);
-        bad_limit = (limit_told, λ q. bound_refused 0 (bad_limit_first limit budget q.1) (omega arith) q.0);
-        bad_budget = (budget_told, λ q. bound_refused 1 (bad_budget_next limit budget q.1.0 q.1.1) (omega arith) q.0);
+        bad_limit = (limit_told, λ q. repaired_bound q.0 0 (bad_limit_first limit budget q.1) (omega arith));
+        bad_budget = (budget_told, λ q. repaired_bound q.0 1 (bad_budget_next limit budget q.1.0 q.1.1) (omega arith));
         large_symbol = λ place. (symbol_told place, symbol_refused place);
       }

@@ -6,7 +6,6 @@ use native.Mathlib.Omega.{arith}
 use mathlib.Core.List.{List}
 use borrow.Author.Tests.{lt-ltb, le-ltb}
 use Rattle.basics.proofs.Choice.{below_or_not, equal_or_not}
-use Rattle.refusal.specs.Refusals.{refusal, shared_fewest}
 use Rattle.frame.specs.Symbols.{frame_of, RightSymbols, received_bits}
 use Rattle.frame.proofs.SymbolLaws.{length_received_bits}
 use Rattle.distance.specs.Prefixes.{word_disagreements, live_count}
@@ -16,12 +15,12 @@ use Rattle.distance.proofs.PrefixLaws.{disagreements_together}
 use Rattle.live_counts.specs.CleanCounts.{clean_count}
 use Rattle.live_counts.proofs.Clean.{any_most}
 use Rattle.least_distance.proofs.Apart.{least_distance}
-use Rattle.repair.specs.Answer.{nearest_with, frame_repaired, repair_numbers}
+use Rattle.repair.specs.Answer.{nearest_with, frame_repaired}
 use Rattle.repair.specs.Demand.{Bounds, IsNearest, NoneWithin, Shared}
 use Rattle.repair.specs.Flips.{flips, word_given_back, FramesApart, FramesLeast, FlipsRepaired, TwoFlipsRepaired, FourFlipsRepaired, no_word_given, FlipsLaw, ThreeFlipsRefused, NeverShared, MarginLeft, WrongWordFlips}
 use Rattle.repair.specs.declared.Nearest.{Nearest}
-use Rattle.repair.proofs.AnswerLaws.{number_same, repaired_searched, shared_of, demanded}
-use Rattle.repair.proofs.CheckLaws.{refusal_searched, word_searched}
+use Rattle.repair.proofs.AnswerLaws.{repaired_searched, shared_of, demanded}
+use Rattle.repair.proofs.CheckLaws.{right_searched}
 use Rattle.repair.proofs.FlipLaws.{flips_disagreements, flips_frame_of, frames_apart}
 
 pub frames_least : FramesLeast 28 0x546C3 0
@@ -168,10 +167,9 @@ module _ (frame : List ℕ) (limit budget : ℕ) where
       )
 
   pub never_shared : NeverShared (frame_repaired frame limit budget)
-  unfolding repair_numbers
-  never_shared place e =
-      let (right, bounds) = refusal_searched frame limit budget (refusal shared_fewest place) (omega arith) e in
-      none_shared bounds (shared_of frame limit budget (number_same _ _ (sym (repaired_searched frame limit budget right bounds) ∙ e))).1
+  never_shared e =
+      let (right, bounds) = right_searched frame limit budget (rw e (omega arith)) in
+      none_shared bounds (shared_of frame limit budget (sym (repaired_searched frame limit budget right bounds) ∙ e)).1
 
   -- The next nearest word is never within the limit.
   margin_of : (nearest : Nearest) → Bounds limit budget → IsNearest frame limit nearest → nearest.disagreements + nearest.margin ≡ limit + 1
@@ -193,5 +191,5 @@ module _ (frame : List ℕ) (limit budget : ℕ) where
 
   pub margin_limit : MarginLeft limit (frame_repaired frame limit budget)
   margin_limit nearest e =
-      let (right, bounds) = word_searched frame limit budget nearest e in
+      let (right, bounds) = right_searched frame limit budget (rw e tt) in
       omega (arith, margin_of nearest bounds (((demanded frame limit budget right bounds).answered nearest).0 e).1)

@@ -4,8 +4,9 @@ use Prim.Native.Nat.{ℕ, ◌-◌, ◌^◌, ◌≤◌, ◌<◌}
 use native.Mathlib.Omega.{arith}
 use mathlib.Core.List.{List}
 use borrow.Author.Tests.{lt-ltb, le-ltb, le-leb, lt-leb}
+use Rattle.std.specs.Prelude.{Ok, Err}
 use Rattle.basics.proofs.Choice.{below_or_not}
-use Rattle.refusal.specs.Refusals.{refusal, over_budget, none_within_limit, shared_fewest}
+use Rattle.refusal.specs.declared.Refusal.{Refusal}
 use Rattle.interleaver.specs.Places.{place_of}
 use Rattle.interleaver.proofs.PlaceLaws.{place_of_below}
 use Rattle.frame.specs.Symbols.{RightSymbols, DataBits, received_bits, wrong_sync_in}
@@ -18,7 +19,6 @@ use Rattle.repair.specs.Demand.{IsNearest, Shared}
 use Rattle.repair.specs.Search.{BestBelow, SearchFound, nearest_in, answer_of}
 use Rattle.repair.specs.declared.best.Best.{Best}
 use Rattle.repair.specs.declared.search.Found.{Found}
-use Rattle.repair.specs.declared.RepairAnswer.{RepairAnswer}
 use Rattle.repair.proofs.AnswerLaws.{searched_over, of_word, of_none, of_shared}
 
 -- The data bits of symbols of 0 to 3 are bits.
@@ -37,22 +37,22 @@ module _ (found : Found) (wrong limit budget : ℕ) where
   abbrev best : Best
   best = found.best
 
-  pub answer_over : budget < found.live → answer_of found wrong limit budget ≡ RepairAnswer.Refused (refusal over_budget 0)
+  pub answer_over : budget < found.live → answer_of found wrong limit budget ≡ Err Refusal.OverBudget
   unfolding answer_of
   answer_over over = rw (lt-ltb budget found.live over)
 
   module _ (within : found.live ≤ budget) where
-    pub answer_none : limit < best.fewest → answer_of found wrong limit budget ≡ RepairAnswer.Refused (refusal none_within_limit 0)
+    pub answer_none : limit < best.fewest → answer_of found wrong limit budget ≡ Err Refusal.NoneWithinLimit
     unfolding answer_of
     answer_none far = rw (le-ltb budget found.live within, lt-ltb limit best.fewest far)
 
     module _ (near : best.fewest ≤ limit) where
-      pub answer_shared : best.next ≤ best.fewest → answer_of found wrong limit budget ≡ RepairAnswer.Refused (refusal shared_fewest 0)
+      pub answer_shared : best.next ≤ best.fewest → answer_of found wrong limit budget ≡ Err Refusal.SharedFewest
       unfolding answer_of
       answer_shared shared =
           rw (le-ltb budget found.live within, le-ltb limit best.fewest near, le-leb best.next best.fewest shared)
 
-      pub answer_word : best.fewest < best.next → answer_of found wrong limit budget ≡ RepairAnswer.Word (nearest_in found wrong)
+      pub answer_word : best.fewest < best.next → answer_of found wrong limit budget ≡ Ok (nearest_in found wrong)
       unfolding answer_of
       answer_word alone =
           rw (le-ltb budget found.live within, le-ltb limit best.fewest near, lt-leb best.next best.fewest alone)

@@ -5,12 +5,12 @@ use native.Mathlib.Omega.{arith}
 use mathlib.Core.Bool.{true, false}
 use mathlib.Core.List.{List}
 use lib.ListN.{length}
+use Rattle.std.specs.Prelude.{Ok}
 use borrow.Author.Tests.{not-true, not-false, eqb-true, eqb-false}
 use Rattle.basics.proofs.Choice.{by_test}
 use Rattle.convolution.specs.Code.{coded_bits}
 use Rattle.convolution.proofs.CodeLaws.{length_coded_bits}
 use Rattle.interleaver.specs.Places.{place_of}
-use Rattle.refusal.specs.Refusals.{refusal, over_budget}
 use Rattle.frame.specs.Symbols.{RightSymbols, received_bits}
 use Rattle.frame.proofs.SymbolLaws.{length_received_bits}
 use Rattle.distance.specs.Prefixes.{differences, live_count}
@@ -19,14 +19,13 @@ use Rattle.distance.proofs.PrefixLaws.{disagreements_of_word}
 use Rattle.live_counts.specs.CleanCounts.{clean_count}
 use Rattle.live_counts.proofs.Clean.{counts_of_clean, flipped_most, any_most}
 use Rattle.live_counts.proofs.OneFlip.{one_flip_there, one_flip_elsewhere}
-use Rattle.repair.specs.Answer.{frame_repaired, repair_numbers}
+use Rattle.repair.specs.Answer.{frame_repaired}
 use Rattle.repair.specs.Demand.{Bounds}
 use Rattle.repair.specs.Flips.{flipped_at, flips}
 use Rattle.repair.specs.LiveCounts.{worst_index, OneFlipCount, CountsByFlips, CountsOfAny, CleanRepaired, OneFlipRepaired, NeverOverBudget}
 use Rattle.repair.specs.declared.Nearest.{Nearest}
-use Rattle.repair.specs.declared.RepairAnswer.{RepairAnswer}
-use Rattle.repair.proofs.AnswerLaws.{number_same, repaired_searched, over_of, demanded}
-use Rattle.repair.proofs.CheckLaws.{refusal_searched}
+use Rattle.repair.proofs.AnswerLaws.{repaired_searched, over_of, demanded}
+use Rattle.repair.proofs.CheckLaws.{right_searched}
 use Rattle.repair.proofs.FlipLaws.{received_there, sent_there, flips_disagreements}
 use Rattle.repair.proofs.FlipAnswers.{flips_repaired}
 use Rattle.repair.proofs.FoundLaws.{bits_received}
@@ -106,7 +105,7 @@ counts_by_flips frame right word h = (
 
 module _ (frame : List ℕ) (limit budget : ℕ) (right : RightSymbols frame) (bounds : Bounds limit budget) where
   -- An answer carries the live count.
-  carried : (nearest : Nearest) → frame_repaired frame limit budget ≡ RepairAnswer.Word nearest → nearest.live ≡ live_count (received_bits frame) limit
+  carried : (nearest : Nearest) → frame_repaired frame limit budget ≡ Ok nearest → nearest.live ≡ live_count (received_bits frame) limit
   carried nearest e = (((demanded frame limit budget right bounds).answered nearest).0 e).1.its_live_count
 
 pub clean_repaired : (frame : List ℕ) (limit budget : ℕ) → CleanRepaired frame limit budget (frame_repaired frame limit budget)
@@ -133,8 +132,7 @@ one_flip_repaired frame limit budget two bounds right word h one =
 
 -- 16 would need a larger live count.
 pub never_over_budget : (frame : List ℕ) (limit budget : ℕ) → NeverOverBudget limit budget (frame_repaired frame limit budget)
-unfolding repair_numbers
-never_over_budget frame limit budget to_4 enough place e =
-    let (right, bounds) = refusal_searched frame limit budget (refusal over_budget place) (omega arith) e in
-    let over = over_of frame limit budget (number_same _ _ (sym (repaired_searched frame limit budget right bounds) ∙ e)) in
+never_over_budget frame limit budget to_4 enough e =
+    let (right, bounds) = right_searched frame limit budget (rw e (omega arith)) in
+    let over = over_of frame limit budget (sym (repaired_searched frame limit budget right bounds) ∙ e) in
     omega (arith, over, counts_of_any frame limit (omega arith))

@@ -1,12 +1,11 @@
 -- What is asked of an answer: what is refused before a search; and demand 3: when the answer is "out of budget", when it is a word and
 -- which, with which margin. What is asked of flipped data bits is in Flips.antt.
-use Rattle.std.specs.Prelude.{◌≡◌, ◌↔◌, ◌⊎◌, ℕ, ◌^◌, ◌≤◌, ◌<◌, List, length, get_or}
-use Rattle.refusal.specs.Refusals.{refusal, wrong_length, symbol_too_large, bad_bound, over_budget, none_within_limit, shared_fewest}
+use Rattle.std.specs.Prelude.{◌≡◌, ◌↔◌, ◌⊎◌, ℕ, ◌^◌, ◌≤◌, ◌<◌, List, length, get_or, Result, Ok, Err}
+use Rattle.refusal.specs.declared.Refusal.{Refusal}
 use Rattle.frame.specs.Symbols.{RightSymbols, received_bits, wrong_sync_in}
 use Rattle.distance.specs.Prefixes.{word_disagreements, live_count}
 use Rattle.distance.specs.Nearest.{AtMostAll, OnlyNearest, IsMargin}
 use Rattle.repair.specs.declared.Nearest.{Nearest}
-use Rattle.repair.specs.declared.RepairAnswer.{RepairAnswer}
 
 -- "a limit of 0 to 12 wrong data bits and a budget of 1 to 65,536"
 pub record Bounds (limit budget : ℕ) : Type 0 where
@@ -23,16 +22,16 @@ pub record FirstLargeAt (frame : List ℕ) (place : ℕ) : Type 0 where
   pub none_before : (earlier : ℕ) → earlier < place → get_or frame earlier 0 ≤ 3
 
 -- 01's table for 1, 15 and 7, in that order: each is given exactly when it applies and none before it does.
-pub record AsChecked (frame : List ℕ) (limit budget : ℕ) (answer : RepairAnswer) : Type 0 where
+pub record AsChecked (frame : List ℕ) (limit budget : ℕ) (answer : Result Nearest Refusal) : Type 0 where
   -- "a lent buffer hasn't its exact length (.. frame 162)"
-  pub when_wrong_length : (answer ≡ RepairAnswer.Refused (refusal wrong_length 0)) ↔ (length frame ≡ 162 → ⊥)
+  pub when_wrong_length : (answer ≡ Err Refusal.WrongLength) ↔ (length frame ≡ 162 → ⊥)
   -- "limit above 12, or budget 0 or above 65,536", place 0 or 1
-  pub bad_limit : (answer ≡ RepairAnswer.Refused (refusal bad_bound 0)) ↔ ((length frame ≡ 162) × (12 < limit))
-  pub bad_budget : (answer ≡ RepairAnswer.Refused (refusal bad_bound 1))
+  pub bad_limit : (answer ≡ Err (Refusal.BadBound 0)) ↔ ((length frame ≡ 162) × (12 < limit))
+  pub bad_budget : (answer ≡ Err (Refusal.BadBound 1))
       ↔ ((length frame ≡ 162) × ((limit ≤ 12) × ((budget ≡ 0) ⊎ (65_536 < budget))))
   -- "a symbol is above 3": the first such
   pub large_symbol : (place : ℕ)
-      → ((answer ≡ RepairAnswer.Refused (refusal symbol_too_large place)) ↔ ((length frame ≡ 162) × (Bounds limit budget × FirstLargeAt frame place)))
+      → ((answer ≡ Err (Refusal.SymbolTooLarge place)) ↔ ((length frame ≡ 162) × (Bounds limit budget × FirstLargeAt frame place)))
 
 -- ---- What is answered
 
@@ -60,19 +59,19 @@ pub record Shared (received : List ℕ) (limit : ℕ) : Type 0 where
   pub within_limit : word_disagreements received one ≤ limit
 
 -- Demand 3: when the answer is "out of budget", when it is a word and which, and else why there is none.
-pub record Demanded (frame : List ℕ) (limit budget : ℕ) (answer : RepairAnswer) : Type 0 where
+pub record Demanded (frame : List ℕ) (limit budget : ℕ) (answer : Result Nearest Refusal) : Type 0 where
   -- "it says "out of budget" exactly when the live count .. is above the budget"
-  pub out_of_budget : (answer ≡ RepairAnswer.Refused (refusal over_budget 0)) ↔ (budget < live_count (received_bits frame) limit)
+  pub out_of_budget : (answer ≡ Err Refusal.OverBudget) ↔ (budget < live_count (received_bits frame) limit)
   -- "Otherwise it answers exactly when one single 50-bit word has the fewest disagreements with those symbols, and these are at most the
   -- limit."
   pub answered : (nearest : Nearest)
-      → ((answer ≡ RepairAnswer.Word nearest) ↔ ((live_count (received_bits frame) limit ≤ budget) × IsNearest frame limit nearest))
+      → ((answer ≡ Ok nearest) ↔ ((live_count (received_bits frame) limit ≤ budget) × IsNearest frame limit nearest))
   -- Where there is no such word, 01's table says why.
-  pub none_within : (answer ≡ RepairAnswer.Refused (refusal none_within_limit 0))
+  pub none_within : (answer ≡ Err Refusal.NoneWithinLimit)
       ↔ ((live_count (received_bits frame) limit ≤ budget) × NoneWithin (received_bits frame) limit)
-  pub shared : (answer ≡ RepairAnswer.Refused (refusal shared_fewest 0))
+  pub shared : (answer ≡ Err Refusal.SharedFewest)
       ↔ ((live_count (received_bits frame) limit ≤ budget) × Shared (received_bits frame) limit)
 
 -- "Repair takes any 162 symbols of 0 to 3, a limit .. and a budget .. Whichever these are, ..": what is demanded of its answer.
-abbrev pub AsDemanded : List ℕ → ℕ → ℕ → RepairAnswer → Type 0
+abbrev pub AsDemanded : List ℕ → ℕ → ℕ → Result Nearest Refusal → Type 0
 AsDemanded frame limit budget answer = RightSymbols frame → Bounds limit budget → Demanded frame limit budget answer

@@ -1,13 +1,12 @@
 -- What the search keeps and finds. No promise of `repair` has to be believed through these: they stand between its functions. One of them is
 -- a sentence of 01 by itself: `stops` of `SearchFound`.
-use Rattle.std.specs.Prelude.{◌≡◌, ℕ, ◌+◌, ◌-◌, ◌^◌, ◌≤◌, ◌<◌, cond, List, leb, ltb}
-use Rattle.refusal.specs.Refusals.{refusal, over_budget, none_within_limit, shared_fewest}
+use Rattle.std.specs.Prelude.{◌≡◌, ℕ, ◌+◌, ◌-◌, ◌^◌, ◌≤◌, ◌<◌, cond, List, leb, ltb, Result, Ok, Err}
+use Rattle.refusal.specs.declared.Refusal.{Refusal}
 use Rattle.distance.specs.Prefixes.{word_disagreements, live_count}
 use Rattle.repair.specs.Answer.{nearest_from}
 use Rattle.repair.specs.declared.best.Best.{Best}
 use Rattle.repair.specs.declared.search.Found.{Found}
 use Rattle.repair.specs.declared.Nearest.{Nearest}
-use Rattle.repair.specs.declared.RepairAnswer.{RepairAnswer}
 
 -- ---- The nearest word so far
 
@@ -48,10 +47,10 @@ nearest_in found wrong =
     let best = found.best in
     nearest_from best.word best.fewest found.live wrong (best.next - best.fewest)
 
-unfoldable pub answer_of : Found → ℕ → ℕ → ℕ → RepairAnswer
+unfoldable pub answer_of : Found → ℕ → ℕ → ℕ → Result Nearest Refusal
 answer_of found wrong limit budget =
     let best = found.best in
-    cond (ltb budget found.live) (RepairAnswer.Refused (refusal over_budget 0))
-    (cond (ltb limit best.fewest) (RepairAnswer.Refused (refusal none_within_limit 0))
-    (cond (leb best.next best.fewest) (RepairAnswer.Refused (refusal shared_fewest 0))
-    (RepairAnswer.Word (nearest_in found wrong))))
+    cond (ltb budget found.live) (Err Refusal.OverBudget)
+    (cond (ltb limit best.fewest) (Err Refusal.NoneWithinLimit)
+    (cond (leb best.next best.fewest) (Err Refusal.SharedFewest)
+    (Ok (nearest_in found wrong))))

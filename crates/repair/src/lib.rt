@@ -8,16 +8,14 @@ mod prefix;
 mod search;
 
 ghost use Rattle.std.specs.Prelude.{◌≡◌};
+ghost use Rattle.basics.specs.Lists.{some_below};
 ghost use Rattle.repair.specs.Answer.{first_bad_bound, frame_repaired, repair_numbers};
 ghost use Rattle.repair.specs.Demand.{AsChecked, AsDemanded};
 ghost use Rattle.repair.specs.Flips.{FlipsRepaired, TwoFlipsRepaired, FourFlipsRepaired, FlipsRefused, ThreeFlipsRefused, NeverShared, MarginLeft, WrongWordFlips};
 ghost use Rattle.repair.specs.LiveCounts.{CleanRepaired, OneFlipRepaired, NeverOverBudget};
 ghost use Rattle.repair.specs.Search.{answer_of};
 
-use refusal::{
-    BAD_BOUND, NONE_WITHIN_LIMIT, OVER_BUDGET, Refusal, SHARED_FEWEST, SYMBOL_TOO_LARGE,
-    WRONG_LENGTH,
-};
+use refusal::Refusal;
 use search::Found;
 
 // The nearest word, its disagreements, the live count, how many of the 162 sync bits are wrong, and the
@@ -33,50 +31,34 @@ pub struct Nearest {
     pub margin: u32,
 }
 
-// The answer of a repair.
-#[derive(Clone, Copy)]
-pub enum RepairAnswer {
-    Word(Nearest),
-    Refused(Refusal),
-}
-
-// 0 where the limit is above its range, 1 where the budget is out of its own, 2 where neither is.
-fn first_bad_bound(limit: u32, budget: u32) -> u32
-    ensures { result ≡ first_bad_bound limit budget }
+// The first bound that is out of its range: 0 for the limit, 1 for the budget.
+fn first_bad_bound(limit: u32, budget: u32) -> Option<u32>
+    ensures { result ≡ some_below 2 (first_bad_bound limit budget) }
 {
     if 12 < limit {
-        return 0;
+        return Some(0);
     }
-    if budget < 1 {
-        return 1;
+    if !(1..=65_536).contains(&budget) {
+        return Some(1);
     }
-    if 65_536 < budget { 1 } else { 2 }
+    None
 }
 
 // The answer that a search gives.
-fn answer(found: Found, sync_wrong: u32, limit: u32, budget: u32) -> RepairAnswer
+fn answer(found: Found, sync_wrong: u32, limit: u32, budget: u32) -> Result<Nearest, Refusal>
     ensures { result ≡ answer_of found sync_wrong limit budget }
 {
     if budget < found.live {
-        return RepairAnswer::Refused(Refusal {
-            number: OVER_BUDGET,
-            place: 0,
-        });
+        return Err(Refusal::OverBudget);
     }
     let best = found.best;
     if limit < best.fewest {
-        return RepairAnswer::Refused(Refusal {
-            number: NONE_WITHIN_LIMIT,
-            place: 0,
-        });
+        return Err(Refusal::NoneWithinLimit);
     }
     if best.next <= best.fewest {
-        return RepairAnswer::Refused(Refusal {
-            number: SHARED_FEWEST,
-            place: 0,
-        });
+        return Err(Refusal::SharedFewest);
     }
-    RepairAnswer::Word(Nearest {
+    Ok(Nearest {
         word: best.word,
         disagreements: best.fewest,
         live: found.live,
@@ -87,7 +69,7 @@ fn answer(found: Found, sync_wrong: u32, limit: u32, budget: u32) -> RepairAnswe
 
 // The one word that is nearest to the symbols of a frame, if it is within the limit and the live count
 // within the budget; else why not.
-pub fn repair(frame: &[u8], limit: u32, budget: u32) -> RepairAnswer
+pub fn repair(frame: &[u8], limit: u32, budget: u32) -> Result<Nearest, Refusal>
     ensures answer { result ≡ frame_repaired frame.now limit budget }
     ensures numbers { repair_numbers result ≡ repair_numbers (frame_repaired frame.now limit budget) }
     ensures checked { AsChecked frame.now limit budget result }
@@ -105,24 +87,13 @@ pub fn repair(frame: &[u8], limit: u32, budget: u32) -> RepairAnswer
     ensures never_over_budget { NeverOverBudget limit budget result }
 {
     if frame.len() != 162 {
-        return RepairAnswer::Refused(Refusal {
-            number: WRONG_LENGTH,
-            place: 0,
-        });
+        return Err(Refusal::WrongLength);
     }
-    let bad = first_bad_bound(limit, budget);
-    if bad < 2 {
-        return RepairAnswer::Refused(Refusal {
-            number: BAD_BOUND,
-            place: bad,
-        });
+    if let Some(bad) = first_bad_bound(limit, budget) {
+        return Err(Refusal::BadBound(bad));
     }
-    let large = frame::symbols::first_large(frame);
-    if large < 162 {
-        return RepairAnswer::Refused(Refusal {
-            number: SYMBOL_TOO_LARGE,
-            place: large as u32,
-        });
+    if let Some(place) = frame::symbols::first_large(frame) {
+        return Err(Refusal::SymbolTooLarge(place as u32));
     }
     let received = frame::symbols::received_bits(frame);
     let found = search::search(&received, limit, budget);

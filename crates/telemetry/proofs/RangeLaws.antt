@@ -1,14 +1,17 @@
 -- Laws of the ranges: what each range says, and that nothing is out of its range exactly where all are in it.
 use mathlib.Core.Path.{◌≡◌}
-use Prim.Native.Nat.{◌≤◌}
+use Rattle.std.specs.Prelude.{Ok, Err}
+use Rattle.refusal.specs.declared.Refusal.{Refusal}
+use Prim.Native.Nat.{ℕ, ◌≤◌, ◌<◌}
 use native.Mathlib.Omega.{arith}
 use mathlib.Core.Bool.{true}
+use borrow.Author.Tests.{lt-ltb, le-ltb}
 use Rattle.basics.specs.Lists.{is_true}
 use Rattle.basics.proofs.Choice.{between_true, between_range}
 use Rattle.basics.proofs.ListLaws.{AllPass, first_failing_end, all_pass, none_fails}
 use Rattle.u4b.specs.Channel.{is_first_character, is_third_character}
 use Rattle.u4b.specs.declared.channel.FirstCharacters.{FirstCharacters}
-use Rattle.telemetry.specs.Ranges.{temperature_in_range, in_ranges, first_out_of_range}
+use Rattle.telemetry.specs.Ranges.{temperature_in_range, in_ranges, first_out_of_range, range_checked, InRangeForSome}
 use Rattle.telemetry.specs.declared.Measured.{Measured}
 
 -- What is measured is in its ranges.
@@ -40,6 +43,14 @@ module _ (taken : FirstCharacters) (m : Measured) where
         speed = (between_range 0 839 s.speed t.1.1.1.1.1.1.1.0).1;
         gps = (between_range 0 1 s.gps t.1.1.1.1.1.1.1.1.0).1;
       }
+
+  pub checked_found : (bad : ℕ) → first_out_of_range taken m ≡ bad → bad < 9 → range_checked taken m ≡ Err (Refusal.OutOfRange bad)
+  unfolding range_checked
+  checked_found bad e h = rw (e, lt-ltb bad 9 h)
+
+  pub checked_none : 9 ≤ first_out_of_range taken m → range_checked taken m ≡ Ok m
+  unfolding range_checked
+  checked_none h = rw (le-ltb _ 9 h)
 
   pub first_out_of_range_end : first_out_of_range taken m ≤ 9
   unfolding in_ranges first_out_of_range
@@ -74,3 +85,7 @@ module _ (taken : FirstCharacters) (m : Measured) where
           ),
         ),
       )
+
+-- So it is for one of the choices of first characters.
+pub in_range_for_some : {m : Measured} (some : InRangeForSome m) → InRange some.0 m
+in_range_for_some some = in_range some.0 _ (omega (arith, some.1))

@@ -1,8 +1,9 @@
 -- The ranges of what is measured (01, 'Telemetry').
-use Rattle.std.specs.Prelude.{ℕ, ◌≡◌, Bool, ◌&&◌, List, [], ◌∷◌, ℤ, pos, neg_ℤ}
+use Rattle.std.specs.Prelude.{ℕ, ◌≡◌, Bool, cond, ◌&&◌, List, [], ◌∷◌, ℤ, pos, neg_ℤ, ltb, Result, Ok, Err}
 use Rattle.std.specs.Int.Signed.{le_z}
 use Rattle.basics.specs.Test.{between}
 use Rattle.basics.specs.Lists.{first_false}
+use Rattle.refusal.specs.declared.Refusal.{Refusal}
 use Rattle.u4b.specs.Channel.{is_first_character, is_third_character, is_sub_square}
 use Rattle.u4b.specs.declared.channel.FirstCharacters.{FirstCharacters}
 use Rattle.telemetry.specs.declared.Measured.{Measured}
@@ -30,6 +31,12 @@ in_ranges taken m =
 -- The first place that is out of its range; 9 where none is.
 unfoldable pub first_out_of_range : FirstCharacters → Measured → ℕ
 first_out_of_range taken m = first_false (in_ranges taken m)
+
+-- What is measured, where it is in its ranges. "a reading outside its range is refused"
+unfoldable pub range_checked : FirstCharacters → Measured → Result Measured Refusal
+range_checked taken m =
+    let bad = first_out_of_range taken m in
+    cond (ltb bad 9) (Err (Refusal.OutOfRange bad)) (Ok m)
 
 -- Nothing is out of its range, for some choice of the first characters that are taken: which it is doesn't matter to the two numbers, in
 -- which no channel stands.

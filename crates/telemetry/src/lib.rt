@@ -11,9 +11,8 @@ ghost use Rattle.message.specs.RoundTrip.{WrittenInCapitals};
 ghost use Rattle.telemetry.specs.Answer.{telemetry_written, callsign_after_telemetry, locator_after_telemetry, telemetry_read, word_telemetry, telemetry_numbers};
 ghost use Rattle.telemetry.specs.RoundTrip.{TelemetryReadsBack, TelemetryWithinSteps, TelemetryWritesBack, TelemetryRefusedExactly, WordSentBack, WordTelemetryRefusedExactly};
 
-use message::MessageAnswer;
-use refusal::{OUT_OF_RANGE, Refusal, WRONG_LENGTH};
-use u4b::PayloadAnswer;
+use range::InRange;
+use refusal::Refusal;
 use u4b::channel::{Channel, FirstCharacters, SubSquare};
 
 // What the sensors of a balloon give; GPS is 0 or 1.
@@ -35,7 +34,8 @@ pub struct Measured {
     pub sensors: Sensors,
 }
 
-// What is read back: the sensors in metres, degrees, millivolts and knots.
+// What is read back: the sensors in metres, degrees, millivolts and knots. Its fields are those of
+// `Measured`, and it is a type of its own so that degrees and knots aren't sent as tenths.
 #[repr(C)]
 #[derive(Clone, Copy)]
 pub struct Reading {
@@ -44,15 +44,8 @@ pub struct Reading {
     pub sensors: Sensors,
 }
 
-// What a message says as telemetry, or why it says nothing: the answer of `read` and `read_word`.
-#[derive(Clone, Copy)]
-pub enum TelemetryAnswer {
-    Telemetry(Reading),
-    Refused(Refusal),
-}
-
 // The message of what was measured: its callsign and locator are written, its power is the answer.
-pub fn write(measured: Measured, callsign: &mut [u8], locator: &mut [u8]) -> MessageAnswer
+pub fn write(measured: Measured, callsign: &mut [u8], locator: &mut [u8]) -> Result<u32, Refusal>
     ensures answer { result ≡ telemetry_written callsign.old locator.old measured }
     ensures numbers { message_numbers result ≡ message_numbers (telemetry_written callsign.old locator.old measured) }
     ensures callsign_after { callsign.new ≡ callsign_after_telemetry callsign.old locator.old measured }
@@ -62,38 +55,27 @@ pub fn write(measured: Measured, callsign: &mut [u8], locator: &mut [u8]) -> Mes
     ensures in_capitals { WrittenInCapitals result callsign.new locator.new }
 {
     if !message::right_lengths(callsign.len(), locator.len()) {
-        return MessageAnswer::Refused(Refusal {
-            number: WRONG_LENGTH,
-            place: 0,
-        });
+        return Err(Refusal::WrongLength);
     }
-    let bad = range::first_out_of_range(FirstCharacters::ZeroOneQ, measured);
-    if bad < 9 {
-        return MessageAnswer::Refused(Refusal {
-            number: OUT_OF_RANGE,
-            place: bad,
-        });
-    }
-    let payload = codes::payload_from(codes::BASIC_BIT, measured);
+    let measured = InRange::checked(FirstCharacters::ZeroOneQ, measured)?;
+    let payload = measured.payload(codes::BASIC_BIT);
     u4b::write(FirstCharacters::ZeroOneQ, payload, callsign, locator)
 }
 
 // What a message says, where it is one of basic telemetry: the same as its capital form.
-pub fn read(callsign: &[u8], locator: &[u8], power: u32) -> TelemetryAnswer
+pub fn read(callsign: &[u8], locator: &[u8], power: u32) -> Result<Reading, Refusal>
     ensures answer { result ≡ telemetry_read callsign.now locator.now power }
     ensures numbers { telemetry_numbers result ≡ telemetry_numbers (telemetry_read callsign.now locator.now power) }
     ensures as_capitals { result ≡ telemetry_read (capital_form callsign.now) (capital_form locator.now) power }
     ensures writes_back { TelemetryWritesBack result callsign.now locator.now power }
     ensures refuses_exactly { TelemetryRefusedExactly result callsign.now locator.now power }
 {
-    match u4b::read(FirstCharacters::ZeroOneQ, callsign, locator, power) {
-        PayloadAnswer::Payload(payload) => codes::read_basic(payload),
-        PayloadAnswer::Refused(refusal) => TelemetryAnswer::Refused(refusal),
-    }
+    let payload = u4b::read(FirstCharacters::ZeroOneQ, callsign, locator, power)?;
+    codes::read_basic(payload)
 }
 
 // What the message of a word says, where it is one of basic telemetry.
-pub fn read_word(word: u64) -> TelemetryAnswer
+pub fn read_word(word: u64) -> Result<Reading, Refusal>
     ensures answer { result ≡ word_telemetry word }
     ensures numbers { telemetry_numbers result ≡ telemetry_numbers (word_telemetry word) }
     ensures sent_back { WordSentBack result word }
@@ -101,8 +83,6 @@ pub fn read_word(word: u64) -> TelemetryAnswer
 {
     let mut callsign = [0u8; 6];
     let mut locator = [0u8; 4];
-    match message::unpack(word, &mut callsign, &mut locator) {
-        MessageAnswer::Power(power) => read(&callsign, &locator, power),
-        MessageAnswer::Refused(refusal) => TelemetryAnswer::Refused(refusal),
-    }
+    let power = message::unpack(word, &mut callsign, &mut locator)?;
+    read(&callsign, &locator, power)
 }

@@ -1,58 +1,57 @@
-// The ranges of what is measured.
+// The ranges of what is measured, and what is measured in them.
 ghost use Rattle.std.specs.Prelude.{◌≡◌};
-ghost use Rattle.basics.specs.Test.{between};
-ghost use Rattle.telemetry.specs.Ranges.{temperature_in_range, first_out_of_range};
+ghost use Rattle.basics.specs.Lists.{some_below};
+ghost use Rattle.telemetry.specs.Ranges.{first_out_of_range, InRangeForSome, range_checked};
+ghost use Rattle.telemetry.specs.declared.Measured.{Measured};
 
 use super::Measured;
+use basics::first_false;
+use refusal::Refusal;
+use std::marker::Model;
 use u4b::channel::{FirstCharacters, is_first_character, is_sub_square, is_third_character};
 
-// A number is one of `low` to `high`.
-fn is_between(low: u32, high: u32, number: u32) -> bool
-    ensures { result ≡ between low high number }
-{
-    low <= number && number <= high
+// What is measured, where nothing of it is out of its range; it is seen as what is measured.
+#[derive(Drop)]
+pub(crate) struct InRange {
+    pub(crate) measured: Measured,
 }
 
-// A temperature in tenths of a degree is one of -500 to 399.
-fn temperature_in_range(tenths: i32) -> bool
-    ensures { result ≡ temperature_in_range tenths }
-{
-    -500 <= tenths && tenths <= 399
+impl Model for InRange {
+    ghost Value = { Measured };
+
+    ghost view = { λ r. r.measured };
+
+    ghost invariant = { λ r. InRangeForSome r.measured };
 }
 
-// The first input that is out of its range, 0 to 8 in the order of the fields; 9 where none is.
-pub(crate) fn first_out_of_range(taken: FirstCharacters, m: Measured) -> u32
-    ensures { result ≡ first_out_of_range taken m }
+impl InRange {
+    // What is measured, where it is in its ranges.
+    pub(crate) fn checked(taken: FirstCharacters, measured: Measured) -> Result<Self, Refusal>
+        ensures { result ≡ range_checked taken measured }
+    {
+        if let Some(bad) = first_out_of_range(taken, measured) {
+            return Err(Refusal::OutOfRange(bad as u32));
+        }
+        Ok(InRange { measured })
+    }
+}
+
+// The first input that is out of its range, 0 to 8 in the order of the fields.
+fn first_out_of_range(taken: FirstCharacters, m: Measured) -> Option<usize>
+    ensures { result ≡ some_below 9 (first_out_of_range taken m) }
 {
     let channel = m.channel;
     let square = m.square;
     let sensors = m.sensors;
-    if !is_first_character(taken, channel.first) {
-        return 0;
-    }
-    if !is_third_character(channel.third) {
-        return 1;
-    }
-    if !is_sub_square(square.grid5) {
-        return 2;
-    }
-    if !is_sub_square(square.grid6) {
-        return 3;
-    }
-    if !is_between(0, 21_359, sensors.altitude) {
-        return 4;
-    }
-    if !temperature_in_range(sensors.temperature) {
-        return 5;
-    }
-    if !is_between(3_000, 4_999, sensors.voltage) {
-        return 6;
-    }
-    if !is_between(0, 839, sensors.speed) {
-        return 7;
-    }
-    if !is_between(0, 1, sensors.gps) {
-        return 8;
-    }
-    9
+    first_false(&[
+        is_first_character(taken, channel.first),
+        is_third_character(channel.third),
+        is_sub_square(square.grid5),
+        is_sub_square(square.grid6),
+        (0..=21_359).contains(&sensors.altitude),
+        (-500..=399).contains(&sensors.temperature),
+        (3_000..=4_999).contains(&sensors.voltage),
+        (0..=839).contains(&sensors.speed),
+        (0..=1).contains(&sensors.gps),
+    ])
 }

@@ -1,48 +1,32 @@
 -- Laws of a line: its form test by test, its answer in each case, in small letters too, and the bytes kept of it.
 use mathlib.Core.Path.{◌≡◌, sym, ap, ◌∙◌}
-use Prim.Native.Nat.{ℕ, ◌+◌, ◌≤◌, ◌<◌}
-use native.Mathlib.Numerals.{add-one}
+use Prim.Native.Nat.{ℕ, ◌≤◌, ◌<◌}
 use native.Mathlib.Omega.{arith}
-use mathlib.Core.Bool.{true, false, ◌&&◌}
+use mathlib.Core.Bool.{true, false}
 use mathlib.Core.List.{List, [], ◌∷◌, ◌++◌}
 use lib.Dec.{eqb}
-use lib.ListN.{length, get_or, take, drop, set, length-take, length-append, length-map}
-use lib.Seq.{length-take-le, take-suc-set, take-take, take_all, take-append-le}
-use borrow.Author.Tests.{eqb-true, eq-eqb, ne_eqb}
+use lib.ListN.{length, get_or, take, drop, length-take, length-map}
+use lib.Seq.{take-take, take_all, take-append-le}
+use borrow.Author.Tests.{eqb-true, ne_eqb}
 use Rattle.basics.specs.Test.{between}
 use Rattle.basics.proofs.Choice.{both_true, by_test, between_above, between_range, below_or_not}
 use Rattle.basics.proofs.ListLaws.{take_map, drop_map}
-use Rattle.refusal.specs.Refusals.{refusal, wrong_length}
 use Rattle.message.specs.Character.{capital, capital_form}
 use Rattle.message.proofs.CharacterLaws.{capital_before, capital_test, capital_space}
 use Rattle.message.proofs.CapitalLaws.{get_d_capitals}
 use Rattle.telemetry.specs.Answer.{telemetry_read}
-use Rattle.telemetry.specs.declared.TelemetryAnswer.{TelemetryAnswer}
+use Rattle.std.specs.Prelude.{Err}
+use Rattle.refusal.specs.declared.Refusal.{Refusal}
 use Rattle.telemetry.proofs.AnswerLaws.{telemetry_capitals}
 use Rattle.telemetry_lines.specs.Text.{space}
 use Rattle.telemetry_lines.specs.Line.{has_form, callsign_in, locator_in, power_in, line_answer, line_text}
-use Rattle.telemetry_lines.specs.Stream.{most_kept, held_by}
-use Rattle.telemetry_lines.specs.declared.line.Line.{Line}
+use Rattle.telemetry_lines.specs.Stream.{most_kept}
 
 -- ---- The form
 
-module _ (line : List ℕ) where
-  pub other_length : (length line ≡ 14 → ⊥) → has_form line ≡ false
-  unfolding has_form
-  other_length h = rw (ne_eqb (length line) 14 h)
-
-  pub other_first_space : length line ≡ 14 → (get_or line 6 0 ≡ space → ⊥) → has_form line ≡ false
-  unfolding has_form
-  other_first_space e h = rw (eq-eqb (length line) 14 e, ne_eqb (get_or line 6 0) space h)
-
-  pub other_second_space : length line ≡ 14 → get_or line 6 0 ≡ space → (get_or line 11 0 ≡ space → ⊥) → has_form line ≡ false
-  unfolding has_form
-  other_second_space e f h = rw (eq-eqb (length line) 14 e, eq-eqb (get_or line 6 0) space f, ne_eqb (get_or line 11 0) space h)
-
-  pub form_by_digits : length line ≡ 14 → get_or line 6 0 ≡ space → get_or line 11 0 ≡ space
-      → has_form line ≡ (between 48 57 (get_or line 12 0) && between 48 57 (get_or line 13 0))
-  unfolding has_form
-  form_by_digits e f g = rw (eq-eqb (length line) 14 e, eq-eqb (get_or line 6 0) space f, eq-eqb (get_or line 11 0) space g)
+other_length : (line : List ℕ) → (length line ≡ 14 → ⊥) → has_form line ≡ false
+unfolding has_form
+other_length line h = rw (ne_eqb (length line) 14 h)
 
 -- What the form says: the length, and that the power is two digits.
 pub record Formed (line : List ℕ) : Type 0 where
@@ -71,7 +55,7 @@ formed line e =
 
 -- ---- The answer
 
-pub answer_other : (line : List ℕ) → has_form line ≡ false → line_answer line ≡ TelemetryAnswer.Refused (refusal wrong_length 0)
+pub answer_other : (line : List ℕ) → has_form line ≡ false → line_answer line ≡ Err Refusal.WrongLength
 unfolding line_answer
 answer_other line e = rw e
 
@@ -119,10 +103,6 @@ line_capitals line =
     ) (telemetry_capitals (take 6 line) (take 4 (drop 7 line)) (power_in line)))
     (λ t. rw (answer_other (capital_form line) (form_capitals line ∙ t), answer_other line t))
 
--- What answering a line promises, from the answer.
-pub line_promised : (line : List ℕ) (answer : TelemetryAnswer) → line_answer line ≡ answer → (answer ≡ line_answer line) × (answer ≡ line_answer (capital_form line))
-line_promised line answer e = (sym e, sym (line_capitals line ∙ e))
-
 -- ---- The bytes kept
 
 -- A longer line than those kept has the same answer as they have.
@@ -146,28 +126,7 @@ kept_more line byte =
     ∙ take-take most_kept most_kept line (omega arith)
     ∙ sym (take-append-le most_kept line (byte ∷ []) (omega arith)))
 
--- The bytes held: a line has room for 15.
-module _ (bytes : List ℕ) (long : length bytes ≡ 15) (n byte : ℕ) where
-  pub held_full : 15 ≤ n → n ≤ 15 → take n bytes ≡ take most_kept (take n bytes ++ (byte ∷ []))
-  held_full h k =
-      let count = length-take-le n bytes (omega arith) in
-      sym (take-append-le most_kept (take n bytes) (byte ∷ []) (omega arith) ∙ take_all most_kept (take n bytes) (omega arith))
-
-  pub held_more : n < 15 → take (n + 1) (set bytes n byte) ≡ take most_kept (take n bytes ++ (byte ∷ []))
-  held_more h =
-      let count = length-take-le n bytes (omega arith) in
-      let within : n < length bytes = omega arith in
-      rw (add-one n, take-suc-set bytes n byte within)
-      (sym (take_all most_kept (take n bytes ++ (byte ∷ [])) (omega (arith, length-append (take n bytes) (byte ∷ [])))))
-
-pub held_within : (line : Line) → line.length ≤ most_kept → length (held_by line) ≤ most_kept
-unfolding held_by
-held_within line h = omega (arith, length-take line.length line.bytes)
-
-pub held_none : (line : Line) → line.length ≡ 0 → held_by line ≡ []
-unfolding held_by
-held_none line e = rw e
-
-pub held_count : (line : Line) → length line.bytes ≡ 15 → line.length ≤ most_kept → length (held_by line) ≡ line.length
-unfolding held_by
-held_count line long h = length-take-le line.length line.bytes (omega arith)
+-- A line with no room left is what is kept with a byte more.
+pub kept_full : (line : List ℕ) (byte : ℕ) → length line ≡ most_kept → line ≡ take most_kept (line ++ (byte ∷ []))
+kept_full line byte e =
+    sym (take-append-le most_kept line (byte ∷ []) (omega arith) ∙ take_all most_kept line (omega arith))

@@ -15,8 +15,6 @@ use Rattle.message.proofs.CharacterLaws.{capital_test}
 use Rattle.telemetry_lines.specs.Text.{newline, answer_text, header, longest_line}
 use Rattle.telemetry_lines.specs.Line.{line_answer, line_text}
 use Rattle.telemetry_lines.specs.Stream.{most_kept, line_after, output_after, last_text, output_of, output_in_parts}
-use Rattle.telemetry_lines.specs.Buffer.{Put}
-use Rattle.telemetry_lines.proofs.PutLaws.{put_none, put_then, put_length}
 use Rattle.telemetry_lines.proofs.TextLaws.{length_answer}
 use Rattle.telemetry_lines.proofs.LineLaws.{line_capitals, kept_text, kept_more}
 
@@ -106,60 +104,47 @@ length_output line (b ∷ bs) =
     (omega (arith, length-append (line_text line) (output_after [] bs), length_line line, length_output [] bs))
     (omega (arith, length_output (line ++ (b ∷ [])) bs))
 
--- ---- The loop over a part: after i bytes the output for them is put, and the line that is then begun is held
+-- ---- The loop over a part: after i bytes the output for them is written, and the line that is then begun is held
 
-pub record Answering (line input before after held : List ℕ) (end i : ℕ) : Type 0 where
-  pub within : i ≤ length input
-  pub output : Put before after 0 end (output_after line (take i input))
+pub record Answering (line input held out : List ℕ) (i : ℕ) : Type 0 where
+  pub output : out ≡ output_after line (take i input)
   pub begun : held ≡ take most_kept (line_after line (take i input))
 
-pub answering_starts : (line input buffer : List ℕ) → length line ≤ most_kept → Answering line input buffer buffer line 0 0
+pub answering_starts : (line input : List ℕ) → length line ≤ most_kept → Answering line input line [] 0
 unfolding line_after output_after
-answering_starts line input buffer h =
-    record { within = omega arith; output = put_none buffer 0 (omega arith); begun = sym (take_all most_kept line h) }
+answering_starts line input h = record { output = refl; begun = sym (take_all most_kept line h) }
 
-module _ {line input before after held : List ℕ} {end i : ℕ} (a : Answering line input before after held end i) (h : i < length input) where
+module _ {line input held out : List ℕ} {i : ℕ} (a : Answering line input held out i) (h : i < length input) where
   -- There is room for a line of output more.
-  pub answering_room : longest_line * length input ≤ length before → end + longest_line ≤ length after
-  answering_room room =
+  pub answering_room : {room : ℕ} → longest_line * length input ≤ room → length out + longest_line ≤ room
+  answering_room k =
       let count = length-take-le i input (omega arith) in
-      omega (arith, a.output.ends, put_length a.output, length_output line (take i input))
+      omega (arith, ap length a.output, length_output line (take i input))
 
   next : take (i + 1) input ≡ take i input ++ (get_or input i 0 ∷ [])
   next = rw (add-one i) (take-suc input i 0 h)
 
-  pub answering_newline : {after' : List ℕ} {end' : ℕ} → get_or input i 0 ≡ newline → Put after after' end end' (answer_text (line_answer held))
-      → Answering line input before after' [] end' (i + 1)
+  pub answering_newline : get_or input i 0 ≡ newline → Answering line input [] (out ++ answer_text (line_answer held)) (i + 1)
   unfolding line_text
-  answering_newline {after'} {end'} e p =
+  answering_newline e =
       let text : answer_text (line_answer held) ≡ line_text (line_after line (take i input)) = rw a.begun (kept_text (line_after line (take i input))) in
       record {
-        within = omega arith;
-        output = rw (next, output_cut line (take i input) (get_or input i 0 ∷ []), output_newline (line_after line (take i input)) (get_or input i 0) e)
-            (put_then a.output (rw text at p));
+        output = rw (next, output_cut line (take i input) (get_or input i 0 ∷ []), output_newline (line_after line (take i input)) (get_or input i 0) e, text, a.output);
         begun = rw (next, line_cut line (take i input) (get_or input i 0 ∷ []), line_newline (line_after line (take i input)) (get_or input i 0) e);
       }
 
-  pub answering_other : {held' : List ℕ} → (get_or input i 0 ≡ newline → ⊥) → held' ≡ take most_kept (held ++ (get_or input i 0 ∷ []))
-      → Answering line input before after held' end (i + 1)
-  answering_other {held'} e f =
+  pub answering_other : (get_or input i 0 ≡ newline → ⊥) → Answering line input (take most_kept (held ++ (get_or input i 0 ∷ []))) out (i + 1)
+  answering_other e =
       record {
-        within = omega arith;
         output = rw (
           next,
           output_cut line (take i input) (get_or input i 0 ∷ []),
           output_other (line_after line (take i input)) (get_or input i 0) e,
           append-nil (output_after line (take i input)),
         ) a.output;
-        begun = rw (next, line_cut line (take i input) (get_or input i 0 ∷ []), line_other (line_after line (take i input)) (get_or input i 0) e)
-            (f ∙ rw a.begun (kept_more (line_after line (take i input)) (get_or input i 0)));
+        begun = rw (next, line_cut line (take i input) (get_or input i 0 ∷ []), line_other (line_after line (take i input)) (get_or input i 0) e, a.begun)
+            (kept_more (line_after line (take i input)) (get_or input i 0));
       }
-
-pub answering_ends : {line input before after held : List ℕ} {end i : ℕ} → length input ≤ i → Answering line input before after held end i
-    → Put before after 0 end (output_after line input) × (held ≡ take most_kept (line_after line input))
-answering_ends {line} {input} {i = i} h a =
-    let whole = take_all i input h in
-    (rw whole at a.output, rw whole at a.begun)
 
 -- ---- Only the first bytes of a line are kept
 
@@ -211,9 +196,10 @@ in_parts parts = ap (λ (text : List ℕ). header ++ text) (parts_from [] parts)
 
 -- ---- The last line
 
-pub last_none : last_text [] ≡ []
+pub last_none : (line : List ℕ) → length line ≡ 0 → [] ≡ last_text line
 unfolding last_text
-last_none = refl
+last_none [] h = refl
+last_none (b ∷ bs) h = absurd (omega arith)
 
 pub last_begun : (line : List ℕ) → 0 < length line → answer_text (line_answer line) ≡ last_text line
 unfolding last_text line_text

@@ -1,25 +1,24 @@
 -- Laws of numbers as text, and the bounds of a line of output.
-use mathlib.Core.Path.{◌≡◌, refl, sym, ◌∙◌}
-use Prim.Native.Nat.{ℕ, zero, suc, ◌+◌, ◌/◌, ◌%◌, ◌^◌, ◌≤◌, ◌<◌}
+use mathlib.Core.Path.{◌≡◌}
+use Prim.Native.Nat.{ℕ, zero, suc, ◌/◌, ◌^◌, ◌≤◌, ◌<◌}
 use native.Mathlib.Nat.{pow-suc}
-use native.Mathlib.Numerals.{add-one}
 use native.Mathlib.Omega.{arith}
-use mathlib.Core.Bool.{true, false, true≢false}
-use mathlib.Core.List.{List, [], ◌∷◌, ◌++◌, append_assoc, append-nil}
+use mathlib.Core.List.{List, [], ◌∷◌, ◌++◌, append_assoc}
 use lib.Dec.{ltb}
-use lib.IntN.{ℤ, pos, negsuc, nat_abs}
-use lib.ListN.{length, drop, set, length-append, length-set, drop_of_length-le}
-use lib.Signed.{lt_z}
-use borrow.Author.Tests.{lt-ltb, le-ltb, ltb-true}
+use lib.IntN.{ℤ, pos, negsuc}
+use lib.ListN.{length, length-append}
+use mir.Syntax.{w32}
+use mir.Val.{SFits}
+use borrow.Author.Tests.{lt-ltb, le-ltb}
 use Rattle.basics.specs.Ascii.{bytes}
-use Rattle.std.proofs.lemmas.List.{drop-set}
-use Rattle.basics.proofs.Choice.{cond_both}
+use Rattle.std.proofs.lemmas.Fmt.{decimal_digit, decimal_step}
+use Rattle.std.specs.Fmt.{decimal, signed_decimal}
+use Rattle.basics.proofs.Choice.{cond_both, below_or_not}
 use Rattle.telemetry.specs.declared.Reading.{Reading}
-use Rattle.telemetry.specs.declared.Sensors.{Sensors}
-use Rattle.telemetry.specs.declared.TelemetryAnswer.{TelemetryAnswer}
+use Rattle.std.specs.Prelude.{Result, Ok, Err}
 use Rattle.refusal.specs.declared.Refusal.{Refusal}
-use Rattle.telemetry_lines.specs.Text.{minus, digit_character, decimal_of, decimal_text, integer_text, line_of, reading_text, refusal_text, answer_text, longest_line}
-use Rattle.telemetry_lines.specs.Pieces.{position_text, first_sensor_text, last_sensor_text}
+use Rattle.refusal.specs.Refusals.{refusal_number, refusal_place}
+use Rattle.telemetry_lines.specs.Text.{newline, space, digit_character, decimal_of, decimal_text, integer_text, line_of, reading_text, refusal_text, answer_text, longest_line}
 
 -- ---- Lengths
 
@@ -56,93 +55,59 @@ length_reading r =
 
 length_refusal : (f : Refusal) → length (refusal_text f) ≤ longest_line
 unfolding refusal_text line_of bytes
-length_refusal f = simp length-append (omega (arith, length_decimal f.number, length_decimal f.place))
+length_refusal f = simp length-append (omega (arith, length_decimal (refusal_number f), length_decimal (refusal_place f)))
 
-pub length_answer : (a : TelemetryAnswer) → length (answer_text a) ≤ longest_line
+pub length_answer : (a : Result Reading Refusal) → length (answer_text a) ≤ longest_line
 unfolding answer_text
-length_answer (TelemetryAnswer.Telemetry r) = length_reading r
-length_answer (TelemetryAnswer.Refused f) = length_refusal f
+length_answer (Ok r) = length_reading r
+length_answer (Err f) = length_refusal f
 
--- ---- Numbers
+-- ---- Numbers as the library writes them
 
-decimal_last : (k n : ℕ) → n < 10 → decimal_of (suc k) n ≡ digit_character n ∷ []
-unfolding decimal_of
-decimal_last k n h = rw (lt-ltb n 10 h)
+decimal_from : (k n : ℕ) → n < 10 ^ suc k → n < 2 ^ 64 → decimal n ≡ decimal_of (suc k) n
+unfolding decimal_of digit_character
+decimal_from zero n h small = rw (lt-ltb n 10 (omega arith)) (decimal_digit n (omega arith))
+decimal_from (suc k) n h small =
+    below_or_not n 10
+    (λ one. rw (lt-ltb n 10 one) (decimal_digit n one))
+    (λ more. rw (le-ltb n 10 more, decimal_step n more small, decimal_from k (n / 10) (omega (arith, pow-suc 10 (suc k))) (omega arith)))
 
-decimal_more : (k n : ℕ) → 10 ≤ n → decimal_of (suc k) n ≡ decimal_of k (n / 10) ++ (digit_character (n % 10) ∷ [])
-unfolding decimal_of
-decimal_more k n h = rw (le-ltb n 10 h)
-
--- The loop over a number's digits, the last first: those from `start` on stand, and `rest` is what is left of the number.
-pub record Writing (number rest start : ℕ) (digits : List ℕ) : Type 0 where
-  pub some : 1 ≤ start
-  pub most : start ≤ 10
-  pub long : length digits ≡ 10
-  pub below : rest < 10 ^ start
-  pub text : decimal_of start rest ++ drop start digits ≡ decimal_text number
-
-pub writing_starts : (number : ℕ) (digits : List ℕ) → number < 2 ^ 32 → length digits ≡ 10 → Writing number number 10 digits
+decimal_is : (n : ℕ) → n < 2 ^ 32 → decimal n ≡ decimal_text n
 unfolding decimal_text
-writing_starts number digits h e =
-    record {
-      some = omega arith;
-      most = omega arith;
-      long = e;
-      below = omega arith;
-      text = rw (drop_of_length-le digits {i = 10} (omega arith)) (append-nil (decimal_of 10 number));
-    }
+decimal_is n h = decimal_from 9 n (omega arith) (omega arith)
 
--- While two digits or more are left, there is room for two.
-writing_room : {number rest start : ℕ} {digits : List ℕ} → Writing number rest start digits → 10 ≤ rest → 2 ≤ start
-writing_room {start = zero} w h = absurd (omega (arith, w.some))
-writing_room {start = suc zero} w h = absurd (omega (arith, w.below))
-writing_room {start = suc (suc s)} w h = omega arith
-
-pub writing_turn : {number rest start : ℕ} {digits : List ℕ} (s : ℕ) → start ≡ suc s → Writing number rest start digits → 10 ≤ rest
-    → Writing number (rest / 10) s (set digits s (48 + rest % 10))
-unfolding digit_character
-writing_turn {number} {rest} {start} {digits} s e w h =
-    let room = writing_room w h in
-    let within : s < length digits = omega (arith, w.most, w.long) in
-    let below = rw e at w.below in
-    let text = rw (e, decimal_more s rest h) at w.text in
-    record {
-      some = omega arith;
-      most = omega (arith, w.most);
-      long = length-set digits s (48 + rest % 10) ∙ w.long;
-      below = omega (arith, below, pow-suc 10 s);
-      text = rw (drop-set digits s (48 + rest % 10) within, add-one s)
-          (sym (append_assoc (decimal_of s (rest / 10)) ((48 + rest % 10) ∷ []) (drop (suc s) digits)) ∙ text);
-    }
-
-pub writing_ends : {number rest start : ℕ} {digits : List ℕ} (s : ℕ) → start ≡ suc s → Writing number rest start digits → rest < 10
-    → drop s (set digits s (48 + rest)) ≡ decimal_text number
-unfolding digit_character
-writing_ends {number} {rest} {start} {digits} s e w h =
-    let within : s < length digits = omega (arith, w.most, w.long) in
-    let text = rw (e, decimal_last s rest h) at w.text in
-    rw (drop-set digits s (48 + rest) within, add-one s) text
-
-pub integer_negative : (z : ℤ) → lt_z z (pos 0) ≡ true → integer_text z ≡ minus ∷ decimal_text (nat_abs z)
+integer_is : (z : ℤ) → SFits w32 z → signed_decimal z ≡ integer_text z
 unfolding integer_text
-integer_negative (pos n) e = absurd (omega (arith, ltb-true n 0 e))
-integer_negative (negsuc n) e = refl
+integer_is (pos n) h = decimal_is n (omega (arith, h.sfits))
+integer_is (negsuc n) h = rw (decimal_is (suc n) (omega (arith, h.sfits)))
 
-pub integer_positive : (z : ℤ) → lt_z z (pos 0) ≡ false → integer_text z ≡ decimal_text (nat_abs z)
-unfolding integer_text
-integer_positive (pos n) e = refl
-integer_positive (negsuc n) e = absurd (true≢false e)
+-- ---- Words put one after the other
 
--- ---- A reading's line in its parts
+seven : (a b c d e f g : List ℕ) → (((((a ++ b) ++ c) ++ d) ++ e) ++ f) ++ g ≡ a ++ (b ++ (c ++ (d ++ (e ++ (f ++ g)))))
+seven a b c d e f g = simp append_assoc
 
-pub reading_parts : (r : Reading) → position_text r ++ (first_sensor_text r.sensors ++ last_sensor_text r.sensors) ≡ reading_text r
-unfolding reading_text line_of position_text first_sensor_text last_sensor_text
-reading_parts r = simp append_assoc
+pub reading_words : (r : Reading)
+    → r.sensors.altitude < 2 ^ 32 → SFits w32 r.sensors.temperature → r.sensors.voltage < 2 ^ 32 → r.sensors.speed < 2 ^ 32 → r.sensors.gps < 2 ^ 32
+    → ((((((r.channel.first ∷ r.channel.third ∷ space ∷ r.square.grid5 ∷ r.square.grid6 ∷ []) ++ (space ∷ decimal r.sensors.altitude))
+    ++ (space ∷ signed_decimal r.sensors.temperature)) ++ (space ∷ decimal r.sensors.voltage)) ++ (space ∷ decimal r.sensors.speed))
+    ++ (space ∷ decimal r.sensors.gps)) ++ (newline ∷ [])
+    ≡ reading_text r
+unfolding reading_text line_of
+reading_words r a t v s g =
+    let n = r.sensors in
+    rw (decimal_is n.altitude a, integer_is n.temperature t, decimal_is n.voltage v, decimal_is n.speed s, decimal_is n.gps g)
+    (seven
+    (r.channel.first ∷ r.channel.third ∷ space ∷ r.square.grid5 ∷ r.square.grid6 ∷ [])
+    (space ∷ decimal_text n.altitude)
+    (space ∷ integer_text n.temperature)
+    (space ∷ decimal_text n.voltage)
+    (space ∷ decimal_text n.speed)
+    (space ∷ decimal_text n.gps)
+    (newline ∷ []))
 
-pub length_position : (r : Reading) → length (position_text r) ≤ 16
-unfolding position_text
-length_position r = omega (arith, length_decimal r.sensors.altitude)
-
-pub length_first_sensors : (s : Sensors) → length (first_sensor_text s) ≤ 23
-unfolding first_sensor_text
-length_first_sensors s = simp length-append (omega (arith, length_integer s.temperature, length_decimal s.voltage))
+pub refusal_words : (f : Refusal) → refusal_number f < 2 ^ 32 → refusal_place f < 2 ^ 32
+    → ((bytes "refused" ++ (space ∷ decimal (refusal_number f))) ++ (space ∷ decimal (refusal_place f))) ++ (newline ∷ []) ≡ refusal_text f
+unfolding refusal_text line_of bytes
+refusal_words f n p =
+    rw (decimal_is (refusal_number f) n, decimal_is (refusal_place f) p)
+    (append_assoc (bytes "refused" ++ (space ∷ decimal_text (refusal_number f))) (space ∷ decimal_text (refusal_place f)) (newline ∷ []))

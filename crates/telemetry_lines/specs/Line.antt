@@ -1,9 +1,9 @@
 -- The answer to a line (01, 'Hut program and host').
-use Rattle.std.specs.Prelude.{ℕ, ◌+◌, ◌-◌, ◌*◌, Bool, cond, ◌&&◌, List, eqb, length, get_or, take, drop}
+use Rattle.std.specs.Prelude.{ℕ, ◌+◌, ◌-◌, ◌*◌, Bool, cond, ◌&&◌, List, eqb, length, get_or, take, drop, Result, Err}
 use Rattle.basics.specs.Test.{between}
-use Rattle.refusal.specs.Refusals.{refusal, wrong_length}
 use Rattle.telemetry.specs.Answer.{telemetry_read}
-use Rattle.telemetry.specs.declared.TelemetryAnswer.{TelemetryAnswer}
+use Rattle.refusal.specs.declared.Refusal.{Refusal}
+use Rattle.telemetry.specs.declared.Reading.{Reading}
 use Rattle.telemetry_lines.specs.Text.{space, answer_text}
 
 -- "lines of 14 bytes (call, space, locator, space, two power digits)". In ASCII, 0-9 are 48 to 57.
@@ -26,9 +26,9 @@ unfoldable pub power_in : List ℕ → ℕ
 power_in line = (get_or line 12 0 - 48) * 10 + (get_or line 13 0 - 48)
 
 -- "A line of another length, or with other separators or digits, is refusal 1"; any other has the answer of reading telemetry.
-unfoldable pub line_answer : List ℕ → TelemetryAnswer
+unfoldable pub line_answer : List ℕ → Result Reading Refusal
 line_answer line =
-    cond (has_form line) (telemetry_read (callsign_in line) (locator_in line) (power_in line)) (TelemetryAnswer.Refused (refusal wrong_length 0))
+    cond (has_form line) (telemetry_read (callsign_in line) (locator_in line) (power_in line)) (Err Refusal.WrongLength)
 
 -- What is written for a line.
 unfoldable pub line_text : List ℕ → List ℕ

@@ -30,8 +30,8 @@ abbrev pub most_kept : ℕ
 most_kept = 15
 
 -- The bytes that a line in the program's state holds.
-unfoldable pub held_by : Line → List ℕ
-held_by line = take line.length line.bytes
+abbrev pub held_by : Line → List ℕ
+held_by line = line.kept.items
 
 -- Where the input comes in parts, and of a line that is begun only its first 15 bytes are kept from one part to the next.
 unfoldable pub output_in_parts : List ℕ → List (List ℕ) → List ℕ

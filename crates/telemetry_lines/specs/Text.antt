@@ -1,9 +1,9 @@
 -- Text in ASCII: numbers, the header, and the line that is written for an answer.
-use Rattle.std.specs.Prelude.{ℕ, zero, suc, ◌+◌, ◌/◌, ◌%◌, cond, List, [], ◌∷◌, ◌++◌, ltb, ℤ, pos, negsuc}
+use Rattle.std.specs.Prelude.{ℕ, zero, suc, ◌+◌, ◌/◌, ◌%◌, cond, List, [], ◌∷◌, ◌++◌, ltb, ℤ, pos, negsuc, Result, Ok, Err}
 use Rattle.basics.specs.Ascii.{bytes}
 use Rattle.refusal.specs.declared.Refusal.{Refusal}
+use Rattle.refusal.specs.Refusals.{refusal_number, refusal_place}
 use Rattle.telemetry.specs.declared.Reading.{Reading}
-use Rattle.telemetry.specs.declared.TelemetryAnswer.{TelemetryAnswer}
 
 -- ---- Characters
 
@@ -68,13 +68,13 @@ unfoldable pub refusal_text : Refusal → List ℕ
 refusal_text f =
     line_of
     (bytes "refused"
-    ∷ decimal_text f.number
-    ∷ decimal_text f.place
+    ∷ decimal_text (refusal_number f)
+    ∷ decimal_text (refusal_place f)
     ∷ [])
 
-unfoldable pub answer_text : TelemetryAnswer → List ℕ
-answer_text (TelemetryAnswer.Telemetry r) = reading_text r
-answer_text (TelemetryAnswer.Refused f) = refusal_text f
+unfoldable pub answer_text : Result Reading Refusal → List ℕ
+answer_text (Ok r) = reading_text r
+answer_text (Err f) = refusal_text f
 
 -- No line of output is longer: there are five numbers of at most ten digits, one with a sign before it, and five other characters, with a
 -- space before each number and the newline.

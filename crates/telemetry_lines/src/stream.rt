@@ -1,55 +1,45 @@
-// The answers to the lines of a part of the input.
+// The output for the lines of a part of the input.
 ghost use Rattle.std.specs.Prelude.{◌≡◌, ◌*◌, ◌≤◌, length, take};
 ghost use Rattle.telemetry_lines.specs.Text.{longest_line};
-ghost use Rattle.telemetry_lines.specs.Buffer.{Put};
 ghost use Rattle.telemetry_lines.specs.Stream.{most_kept, line_after, output_after, last_text, held_by};
 
-use super::line;
 use super::line::Line;
-use super::output::put_answer;
+use super::output::{Text, answer_text, put};
+use arrayvec::ArrayVec;
 
 // What ends a line.
 const NEWLINE: u8 = b'\n';
 
-// The line that is then begun, and where the output ends.
-#[derive(Clone, Copy)]
-pub(crate) struct Answered {
-    pub line: Line,
-    pub end: usize,
-}
+// The output for a part of the input. A line of output has at most 62 bytes, and a byte of input ends
+// at most one line: so that for 1,024 bytes has room.
+pub(crate) type Output = ArrayVec<u8, 65536>;
 
-// Puts the output for a part of the input to the start of `out`, where the line has begun.
-pub(crate) fn answer(line: Line, input: &[u8], out: &mut [u8]) -> Answered
-    requires length_le_most_kept { line.length ≤ most_kept }
-    requires input_in_bounds { longest_line * length input.now ≤ length out.old }
-    ensures output { Put out.old out.new 0 result.end (output_after (held_by line) input.now) }
-    ensures line { held_by result.line ≡ take most_kept (line_after (held_by line) input.now) }
-    ensures kept { result.line.length ≤ most_kept }
+// Makes `out` the output for a part of the input, where the line has begun, and `line` the line that
+// is then begun.
+pub(crate) fn answer(line: &mut Line, input: &[u8], out: &mut Output)
+    requires { longest_line * length input.now ≤ 65536 }
+    ensures output { out.new.items ≡ output_after (held_by line.old) input.now }
+    ensures line { held_by line.new ≡ take most_kept (line_after (held_by line.old) input.now) }
 {
-    let mut begun = line;
-    let mut end = 0;
-    let mut i = 0;
-    while i < input.len() {
-        let byte = input[i];
+    out.clear();
+    for &byte in input {
         if byte == NEWLINE {
-            end = put_answer(line::answer_held(begun), out, end);
-            begun = line::empty();
+            let text = answer_text(line.answer());
+            put(text.as_slice(), out);
+            line.clear();
         } else {
-            begun = line::with_byte(begun, byte);
+            line.push(byte);
         }
-        i += 1;
     }
-    Answered { line: begun, end }
 }
 
-// Puts the output for the last line to the start of `out`, where no newline has ended it.
-pub(crate) fn answer_last(line: Line, out: &mut [u8]) -> usize
-    requires length_le_most_kept { line.length ≤ most_kept }
-    requires longest_line_in_bounds { longest_line ≤ length out.old }
-    ensures { Put out.old out.new 0 result (last_text (held_by line)) }
+// What is written for the last line, where no newline has ended it.
+#[tactic(auto, using(crate::proofs::StreamLaws::last_none, crate::proofs::StreamLaws::last_begun))]
+pub(crate) fn answer_last(line: &Line) -> Text
+    ensures { result.items ≡ last_text (held_by line.now) }
 {
-    if line.length == 0 {
-        return 0;
+    if line.is_empty() {
+        return Text::new();
     }
-    put_answer(line::answer_held(line), out, 0)
+    answer_text(line.answer())
 }

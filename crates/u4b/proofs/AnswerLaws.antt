@@ -1,21 +1,19 @@
 -- The cases of the definitions of the answers, each by what holds there, and what an answer that is no refusal says of its input.
 use mathlib.Core.Path.{◌≡◌, refl, sym, ap, ◌∙◌}
 use Prim.Native.Nat.{ℕ, ◌≤◌, ◌<◌}
-use native.Mathlib.Omega.{arith}
 use mathlib.Core.Bool.{true, false, not}
 use mathlib.Core.List.{List}
 use lib.Dec.{ltb}
 use lib.ListN.{length, get_or}
 use borrow.Author.Tests.{not-false, lt-ltb, le-ltb, ltb-false}
-use Rattle.basics.proofs.Choice.{cond_passed, cond_both}
+use Rattle.basics.proofs.Choice.{cond_passed}
 use Rattle.basics.proofs.ListLaws.{first_failing_map}
 use Rattle.refusal.specs.declared.Refusal.{Refusal}
-use Rattle.refusal.specs.Refusals.{refusal, wrong_length, not_telemetry, out_of_range}
+use Rattle.refusal.proofs.Laws.{refused_not_ok}
 use Rattle.message.specs.Character.{capital, capital_form}
-use Rattle.message.specs.Answer.{right_lengths, message_checked, message_numbers}
-use Rattle.message.specs.declared.CheckAnswer.{CheckAnswer}
-use Rattle.message.specs.declared.MessageAnswer.{MessageAnswer}
-use Rattle.message.proofs.AnswerLaws.{Legal, legal_of_checked, checked_nonzero, refused_no_power}
+use Rattle.message.specs.Answer.{right_lengths, message_checked}
+use Rattle.std.specs.Prelude.{Result, Ok, Err}
+use Rattle.message.proofs.AnswerLaws.{Legal, legal_of_checked}
 use Rattle.message.proofs.CharacterLaws.{capital_capital, capital_space}
 use Rattle.message.proofs.CapitalLaws.{get_d_capitals, digits_capitals, checked_capitals}
 use Rattle.u4b.specs.Channel.{is_first_character, is_third_character, channel_of}
@@ -26,21 +24,20 @@ use Rattle.u4b.specs.declared.channel.Channel.{Channel}
 use Rattle.u4b.specs.declared.channel.FirstCharacters.{FirstCharacters}
 use Rattle.u4b.specs.declared.alphabet.Alphabet.{Alphabet}
 use Rattle.u4b.specs.declared.Payload.{Payload}
-use Rattle.u4b.specs.declared.PayloadAnswer.{PayloadAnswer}
 
 -- ---- The cases of writing
 
 module _ (taken : FirstCharacters) (payload : Payload) where
-  pub message_first : is_first_character taken payload.channel.first ≡ false → payload_message taken payload ≡ MessageAnswer.Refused (refusal out_of_range 0)
+  pub message_first : is_first_character taken payload.channel.first ≡ false → payload_message taken payload ≡ Err (Refusal.OutOfRange 0)
   unfolding payload_message
   message_first e = rw e
 
   module _ (is_first : is_first_character taken payload.channel.first ≡ true) where
-    pub message_third : is_third_character payload.channel.third ≡ false → payload_message taken payload ≡ MessageAnswer.Refused (refusal out_of_range 1)
+    pub message_third : is_third_character payload.channel.third ≡ false → payload_message taken payload ≡ Err (Refusal.OutOfRange 1)
     unfolding payload_message
     message_third e = rw (is_first, e)
 
-    pub message_power : is_third_character payload.channel.third ≡ true → payload_message taken payload ≡ MessageAnswer.Power (power_with payload.lower)
+    pub message_power : is_third_character payload.channel.third ≡ true → payload_message taken payload ≡ Ok (power_with payload.lower)
     unfolding payload_message
     message_power e = rw (is_first, e)
 
@@ -50,16 +47,16 @@ module _ (taken : FirstCharacters) (payload : Payload) where
     pub is_third : is_third_character payload.channel.third ≡ true
     pub is_power : power ≡ power_with payload.lower
 
-  pub writable : (power : ℕ) → payload_message taken payload ≡ MessageAnswer.Power power → Writable power
+  pub writable : (power : ℕ) → payload_message taken payload ≡ Ok power → Writable power
   unfolding payload_message
   writable power e =
-      let its_first = cond_passed (not (is_first_character taken payload.channel.first)) e (refused_no_power _ power) in
-      let its_third = cond_passed (not (is_third_character payload.channel.third)) its_first.1 (refused_no_power _ power) in
+      let its_first = cond_passed (not (is_first_character taken payload.channel.first)) e (refused_not_ok _ power) in
+      let its_third = cond_passed (not (is_third_character payload.channel.third)) its_first.1 (refused_not_ok _ power) in
       record { is_first = not-false _ its_first.0; is_third = not-false _ its_third.0; is_power = cc }
 
 module _ (taken : FirstCharacters) (callsign locator : List ℕ) (payload : Payload) where
   pub written_length : right_lengths (length callsign) (length locator) ≡ false
-      → payload_written taken callsign locator payload ≡ MessageAnswer.Refused (refusal wrong_length 0)
+      → payload_written taken callsign locator payload ≡ Err Refusal.WrongLength
   unfolding payload_written
   written_length e = rw e
 
@@ -67,35 +64,32 @@ module _ (taken : FirstCharacters) (callsign locator : List ℕ) (payload : Payl
   unfolding payload_written
   written_message e = rw e
 
-  pub message_of_written : (power : ℕ) → payload_written taken callsign locator payload ≡ MessageAnswer.Power power
-      → payload_message taken payload ≡ MessageAnswer.Power power
+  pub message_of_written : (power : ℕ) → payload_written taken callsign locator payload ≡ Ok power
+      → payload_message taken payload ≡ Ok power
   unfolding payload_written
-  message_of_written power e = (cond_passed (not (right_lengths (length callsign) (length locator))) e (refused_no_power _ power)).1
+  message_of_written power e = (cond_passed (not (right_lengths (length callsign) (length locator))) e (refused_not_ok _ power)).1
 
 -- ---- The cases of reading
 
 module _ (taken : FirstCharacters) (callsign locator : List ℕ) (power : ℕ) where
-  pub read_illegal : (f : Refusal) → message_checked callsign locator power ≡ CheckAnswer.Refused f → payload_read taken callsign locator power ≡ PayloadAnswer.Refused f
+  pub read_illegal : (f : Refusal) → message_checked callsign locator power ≡ Err f → payload_read taken callsign locator power ≡ Err f
   unfolding payload_read payload_if_legal
   read_illegal f e = rw e
 
-  module _ (legal : message_checked callsign locator power ≡ CheckAnswer.Legal) where
+  module _ (legal : message_checked callsign locator power ≡ (Ok tt)) where
     read_legal : payload_read taken callsign locator power ≡ message_payload taken callsign locator power
     unfolding payload_read payload_if_legal
     read_legal = rw legal
 
     pub read_not_taken : (place : ℕ) → first_not_taken (payload_alphabet taken) callsign ≡ place → place < 6
-        → payload_read taken callsign locator power ≡ PayloadAnswer.Refused (refusal not_telemetry place)
+        → payload_read taken callsign locator power ≡ Err (Refusal.NotTelemetry place)
     unfolding message_payload
     read_not_taken place e h = read_legal ∙ rw (e, lt-ltb place 6 h)
 
     pub read_payload : 6 ≤ first_not_taken (payload_alphabet taken) callsign
-        → payload_read taken callsign locator power ≡ PayloadAnswer.Payload (payload_of callsign locator power)
+        → payload_read taken callsign locator power ≡ Ok (payload_of callsign locator power)
     unfolding message_payload
     read_payload h = read_legal ∙ rw (le-ltb _ 6 h)
-
-refused_no_payload : (f : Refusal) (p : Payload) → PayloadAnswer.Refused f ≡ PayloadAnswer.Payload p → ⊥
-refused_no_payload f p e = let z : ◌≡◌ {A = ℕ} 0 1 = cc in omega arith
 
 -- What a message is whose payload is read, and its payload.
 pub record Readable (taken : FirstCharacters) (callsign locator : List ℕ) (power : ℕ) (p : Payload) : Type 0 where
@@ -104,21 +98,21 @@ pub record Readable (taken : FirstCharacters) (callsign locator : List ℕ) (pow
   pub is_payload : p ≡ payload_of callsign locator power
 
 pub readable : (taken : FirstCharacters) (callsign locator : List ℕ) (power : ℕ) (p : Payload)
-    → payload_read taken callsign locator power ≡ PayloadAnswer.Payload p → Readable taken callsign locator power p
+    → payload_read taken callsign locator power ≡ Ok p → Readable taken callsign locator power p
 unfolding message_payload
 readable taken callsign locator power p e = go (message_checked callsign locator power) refl
   where
-    taken_of : message_payload taken callsign locator power ≡ PayloadAnswer.Payload p
+    taken_of : message_payload taken callsign locator power ≡ Ok p
         → (6 ≤ first_not_taken (payload_alphabet taken) callsign) × (p ≡ payload_of callsign locator power)
     taken_of m =
-        let tests = cond_passed (ltb (first_not_taken (payload_alphabet taken) callsign) 6) m (refused_no_payload _ p) in
+        let tests = cond_passed (ltb (first_not_taken (payload_alphabet taken) callsign) 6) m (refused_not_ok _ p) in
         (ltb-false _ _ tests.0, cc)
 
-    go : (answer : CheckAnswer) → message_checked callsign locator power ≡ answer → Readable taken callsign locator power p
-    go CheckAnswer.Legal c =
+    go : (answer : Result (Unit {0}) Refusal) → message_checked callsign locator power ≡ answer → Readable taken callsign locator power p
+    go (Ok tt) c =
         let (all_taken, same) = taken_of (sym (read_legal taken callsign locator power c) ∙ e) in
         record { legal = legal_of_checked callsign locator power c; all_taken = all_taken; is_payload = same }
-    go (CheckAnswer.Refused f) c = absurd (refused_no_payload f p (sym (read_illegal taken callsign locator power f c) ∙ e))
+    go (Err f) c = absurd (refused_not_ok f p (sym (read_illegal taken callsign locator power f c) ∙ e))
 
 -- ---- Small letters count as their capitals
 
@@ -155,33 +149,3 @@ read_capitals taken callsign locator power =
       taken_capitals (payload_alphabet taken) callsign,
       payload_capitals callsign locator power,
     )
-
--- ---- The refusal number 0 is that of the answers that are no refusal
-
--- An answer with the refusal number 0 has a power.
-abbrev pub Answered : MessageAnswer → Type 0
-Answered a = (message_numbers a).number ≡ 0 → a ≡ MessageAnswer.Power (message_numbers a).power
-
-pub message_answered : (taken : FirstCharacters) (payload : Payload) → Answered (payload_message taken payload)
-unfolding payload_message message_numbers
-message_answered taken payload =
-    cond_both Answered (not (is_first_character taken payload.channel.first)) (λ z. absurd (omega arith))
-    (cond_both Answered (not (is_third_character payload.channel.third)) (λ z. absurd (omega arith)) (λ z. refl))
-
--- No refusal of reading has the number 0.
-Nonzero : PayloadAnswer → Type 0
-Nonzero answer = (f : Refusal) → answer ≡ PayloadAnswer.Refused f → f.number ≡ 0 → ⊥
-
-nonzero_if : (answer : CheckAnswer) (d : PayloadAnswer) → ((f : Refusal) → answer ≡ CheckAnswer.Refused f → f.number ≡ 0 → ⊥) → Nonzero d
-    → Nonzero (payload_if_legal answer d)
-unfolding Nonzero payload_if_legal
-nonzero_if CheckAnswer.Legal d h k = k
-nonzero_if (CheckAnswer.Refused g) d h k = λ f e z. let same : g.number ≡ f.number = cc in h g refl (same ∙ z)
-
-pub refused_nonzero : (taken : FirstCharacters) (callsign locator : List ℕ) (power : ℕ) (f : Refusal)
-    → payload_read taken callsign locator power ≡ PayloadAnswer.Refused f → f.number ≡ 0 → ⊥
-unfolding Nonzero payload_read message_payload
-refused_nonzero taken callsign locator power =
-    nonzero_if (message_checked callsign locator power) (message_payload taken callsign locator power) (checked_nonzero callsign locator power)
-    (cond_both Nonzero (ltb (first_not_taken (payload_alphabet taken) callsign) 6) (λ f e z. let n : not_telemetry ≡ f.number = cc in omega arith)
-    (λ f e z. refused_no_payload f _ (sym e)))

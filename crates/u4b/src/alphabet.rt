@@ -1,5 +1,6 @@
 // The characters that a kind of telemetry takes in a callsign, place by place.
-ghost use Rattle.std.specs.Prelude.{◌≡◌};
+ghost use Rattle.std.specs.Prelude.{◌≡◌, length};
+ghost use Rattle.basics.specs.Lists.{some_below};
 ghost use Rattle.u4b.specs.Alphabet.{taken_at, first_not_taken};
 
 use super::channel::{FirstCharacters, is_first_character};
@@ -25,16 +26,14 @@ fn is_taken_at(alphabet: Alphabet, place: usize, byte: u8) -> bool
     }
 }
 
-// The first place whose character isn't taken there; past the last where there is none.
-pub fn first_not_taken(alphabet: Alphabet, callsign: &[u8]) -> usize
-    ensures { result ≡ first_not_taken alphabet callsign.now }
+// The first place whose character isn't taken there. A `for`, as the place is tested with the character.
+pub fn first_not_taken(alphabet: Alphabet, callsign: &[u8]) -> Option<usize>
+    ensures { result ≡ some_below (length callsign.now) (first_not_taken alphabet callsign.now) }
 {
-    let mut i = 0;
-    while i < callsign.len() {
-        if !is_taken_at(alphabet, i, callsign[i]) {
-            return i;
+    for (i, &byte) in callsign.iter().enumerate() {
+        if !is_taken_at(alphabet, i, byte) {
+            return Some(i);
         }
-        i += 1;
     }
-    i
+    None
 }

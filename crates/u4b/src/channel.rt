@@ -40,22 +40,16 @@ pub fn is_first_character(taken: FirstCharacters, byte: u8) -> bool
     }
 }
 
-// 0 to 9.
+// 0 to 9. It and `is_sub_square` stay apart, one range each: a common function would be the range itself.
 pub fn is_third_character(byte: u8) -> bool
     ensures { result ≡ is_third_character byte }
 {
-    match byte {
-        b'0'..=b'9' => true,
-        _ => false,
-    }
+    matches!(byte, b'0'..=b'9')
 }
 
 // A letter of a sub-square, A to X.
 pub fn is_sub_square(byte: u8) -> bool
     ensures { result ≡ is_sub_square byte }
 {
-    match byte {
-        b'A'..=b'X' => true,
-        _ => false,
-    }
+    matches!(byte, b'A'..=b'X')
 }

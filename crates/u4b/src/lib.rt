@@ -16,9 +16,9 @@ ghost use Rattle.u4b.specs.RoundTrip.{PayloadReadsBack, PayloadWritesBack, Paylo
 
 use alphabet::Alphabet;
 use channel::{Channel, FirstCharacters};
+use message::Message;
 use message::character::capital_of;
-use message::{CheckAnswer, MessageAnswer};
-use refusal::{NOT_TELEMETRY, OUT_OF_RANGE, Refusal, WRONG_LENGTH};
+use refusal::Refusal;
 
 // The channel, and the two numbers (01: A and B in basic telemetry): below 632,736 and 615,600 where
 // they are a message's.
@@ -29,13 +29,6 @@ pub struct Payload {
     pub lower: u64,
 }
 
-// The answer of `read`.
-#[derive(Clone, Copy)]
-pub enum PayloadAnswer {
-    Payload(Payload),
-    Refused(Refusal),
-}
-
 // The message of a payload: its callsign and locator are written, its power is the answer. Each number
 // is written modulo its count.
 pub fn write(
@@ -43,7 +36,7 @@ pub fn write(
     payload: Payload,
     callsign: &mut [u8],
     locator: &mut [u8],
-) -> MessageAnswer
+) -> Result<u32, Refusal>
     ensures answer { result ≡ payload_written taken callsign.old locator.old payload }
     ensures numbers { message_numbers result ≡ message_numbers (payload_written taken callsign.old locator.old payload) }
     ensures callsign_after { callsign.new ≡ callsign_after_payload taken callsign.old locator.old payload }
@@ -52,58 +45,49 @@ pub fn write(
     ensures in_capitals { WrittenInCapitals result callsign.new locator.new }
 {
     if !message::right_lengths(callsign.len(), locator.len()) {
-        return MessageAnswer::Refused(Refusal {
-            number: WRONG_LENGTH,
-            place: 0,
-        });
+        return Err(Refusal::WrongLength);
     }
     let channel = payload.channel;
     if !channel::is_first_character(taken, channel.first) {
-        return MessageAnswer::Refused(Refusal {
-            number: OUT_OF_RANGE,
-            place: 0,
-        });
+        return Err(Refusal::OutOfRange(0));
     }
     if !channel::is_third_character(channel.third) {
-        return MessageAnswer::Refused(Refusal {
-            number: OUT_OF_RANGE,
-            place: 1,
-        });
+        return Err(Refusal::OutOfRange(1));
     }
-    callsign::write_callsign(channel, payload.upper, callsign);
-    MessageAnswer::Power(locator::write_locator(payload.lower, locator))
+    let (its_locator, power) = locator::locator_and_power_with(payload.lower);
+    callsign.copy_from_slice(&callsign::callsign_with(channel, payload.upper));
+    locator.copy_from_slice(&its_locator);
+    Ok(power)
 }
 
 // The payload of a message, the same as that of its capital form.
-pub fn read(taken: FirstCharacters, callsign: &[u8], locator: &[u8], power: u32) -> PayloadAnswer
+pub fn read(
+    taken: FirstCharacters,
+    callsign: &[u8],
+    locator: &[u8],
+    power: u32,
+) -> Result<Payload, Refusal>
     ensures answer { result ≡ payload_read taken callsign.now locator.now power }
     ensures numbers { payload_numbers result ≡ payload_numbers (payload_read taken callsign.now locator.now power) }
     ensures as_capitals { result ≡ payload_read taken (capital_form callsign.now) (capital_form locator.now) power }
     ensures writes_back { PayloadWritesBack result taken callsign.now locator.now power }
     ensures refuses_exactly { PayloadRefusedExactly result taken callsign.now locator.now power }
 {
-    let checked = message::check(callsign, locator, power);
-    if let CheckAnswer::Refused(refusal) = checked {
-        return PayloadAnswer::Refused(refusal);
-    }
+    let message = Message::checked(callsign, locator, power)?;
     // In places 3 to 5 the numbers stand in letters alone.
     let alphabet = Alphabet {
         taken,
         last_space: false,
     };
-    let place = alphabet::first_not_taken(alphabet, callsign);
-    if place < 6 {
-        return PayloadAnswer::Refused(Refusal {
-            number: NOT_TELEMETRY,
-            place: place as u32,
-        });
+    if let Some(place) = alphabet::first_not_taken(alphabet, &message.callsign) {
+        return Err(Refusal::NotTelemetry(place as u32));
     }
-    PayloadAnswer::Payload(Payload {
+    Ok(Payload {
         channel: Channel {
-            first: capital_of(callsign[0]),
-            third: callsign[2],
+            first: capital_of(message.callsign[0]),
+            third: message.callsign[2],
         },
-        upper: callsign::upper_of(callsign),
-        lower: locator::lower_of(locator, power),
+        upper: callsign::upper_of(&message.callsign),
+        lower: locator::lower_of(&message),
     })
 }

@@ -1,7 +1,7 @@
 -- Laws of numerals: a digit's value by its byte, one turn of the reading, and the bound of what is read.
 use mathlib.Core.Path.{◌≡◌, refl}
-use Prim.Native.Nat.{ℕ, ◌+◌, ◌-◌, ◌*◌, ◌^◌, ◌≤◌, ◌<◌}
-use native.Mathlib.Nat.{le_trans, pow-suc, pow-le-pow_left, pow-le-pow_right}
+use Prim.Native.Nat.{ℕ, ◌+◌, ◌*◌, ◌^◌, ◌≤◌, ◌<◌}
+use native.Mathlib.Nat.{pow-zero, pow-suc, pow-le-pow_left, pow-le-pow_right}
 use native.Mathlib.Numerals.{add-one}
 use native.Mathlib.Omega.{arith}
 use mathlib.Core.Bool.{true, cond}
@@ -11,99 +11,83 @@ use lib.Dec.{ltb}
 use lib.ListN.{length, get_or, drop, replicate, drop_of_length-le}
 use lib.Seq.{drop-cons}
 use borrow.Author.Tests.{lt-ltb, le-ltb, ltb-true}
+use Rattle.std.specs.Prelude.{Option, Some, None}
 use Rattle.radix.specs.Numeral.{Digits, number_from, number_of}
 use Rattle.radix.proofs.Laws.{count_same, number_below}
-use Rattle.basics.specs.Test.{between}
-use Rattle.basics.proofs.Choice.{both_true, by_test, cond_held, cond_both, between_true, between_below, between_above}
-use Rattle.wsjtx_vectors.specs.Number.{digit_value, all_digits, number_in}
-use Rattle.wsjtx_vectors.specs.declared.number.Number.{Number}
-
--- ---- A digit's value
-
-pub value_decimal : {b : ℕ} → 48 ≤ b → b ≤ 57 → digit_value b ≡ b - 48
-unfolding digit_value
-value_decimal {b} h k = rw (between_true 48 57 b h k)
-
-pub value_letter : {b : ℕ} → 97 ≤ b → b ≤ 102 → digit_value b ≡ b - 87
-unfolding digit_value
-value_letter {b} h k = rw (between_above 48 57 b (omega arith) (omega arith), between_true 97 102 b h k)
-
-pub value_below : {b : ℕ} → b < 48 → digit_value b ≡ 16
-unfolding digit_value
-value_below {b} h = rw (between_below 48 57 b h, between_below 97 102 b (omega arith))
-
-pub value_between : {b : ℕ} → 57 < b → b < 97 → digit_value b ≡ 16
-unfolding digit_value
-value_between {b} h k = rw (between_above 48 57 b (omega arith) h, between_below 97 102 b k)
-
-pub value_above : {b : ℕ} → 102 < b → digit_value b ≡ 16
-unfolding digit_value
-value_above {b} h = rw (between_above 48 57 b (omega arith) (omega arith), between_above 97 102 b (omega arith) h)
-
--- A byte's value fits a byte.
-pub value_fits : {b : ℕ} → b < 256 → digit_value b < 256
-unfolding digit_value
-value_fits {b} h =
-    cond_both (λ (v : ℕ). v < 256) (between 48 57 b) (omega arith)
-    (cond_both (λ (v : ℕ). v < 256) (between 97 102 b) (omega arith) (omega arith))
+use Rattle.basics.proofs.Choice.{both_true, by_test, cond_held}
+use Rattle.wsjtx_vectors.specs.Number.{digit_value, byte_value, all_digits, number_in}
 
 -- ---- Reading, digit by digit
 
 -- n, then for each byte: times the base, plus the digit; no number from a byte on that is no digit.
-unfoldable pub read_from : ℕ → ℕ → List ℕ → Number
-read_from base n [] = Number.Value n
-read_from base n (b ∷ bs) = cond (ltb (digit_value b) base) (read_from base (n * base + digit_value b) bs) Number.Malformed
+unfoldable pub read_from : ℕ → ℕ → List ℕ → Option ℕ
+read_from base n [] = Some n
+read_from base n (b ∷ bs) = cond (ltb (byte_value b) base) (read_from base (n * base + byte_value b) bs) None
 
 -- It reads what the definition says.
 read_from_numeral : (base n : ℕ) (bs : List ℕ)
     → read_from base n bs
-    ≡ cond (all_digits base bs) (Number.Value (number_from n (replicate (length bs) base) (map digit_value bs))) Number.Malformed
+    ≡ cond (all_digits base bs) (Some (number_from n (replicate (length bs) base) (map byte_value bs))) None
 unfolding read_from all_digits number_from
 read_from_numeral base n [] = refl
 read_from_numeral base n (b ∷ bs) =
-    by_test (ltb (digit_value b) base)
-    (λ e. rw e (read_from_numeral base (n * base + digit_value b) bs))
+    by_test (ltb (byte_value b) base)
+    (λ e. rw e (read_from_numeral base (n * base + byte_value b) bs))
     (λ e. rw e)
 
-pub read_from_all : (base : ℕ) (numeral : List ℕ) → read_from base 0 numeral ≡ number_in base numeral
+-- Bytes up to i were read and wrote n.
+pub record Reading (base : ℕ) (numeral : List ℕ) (n i : ℕ) : Type 0 where
+  pub same : read_from base n (drop i numeral) ≡ number_in base numeral
+  pub below : n < base ^ i
+
+pub reading_starts : (base : ℕ) (numeral : List ℕ) → Reading base numeral 0 0
 unfolding number_in number_of
-read_from_all base numeral = read_from_numeral base 0 numeral
+reading_starts base numeral = record { same = read_from_numeral base 0 numeral; below = rw pow-zero (omega arith) }
 
-module _ (base n : ℕ) (numeral : List ℕ) (i : ℕ) (within : i < length numeral) where
-  pub read_digit : digit_value (get_or numeral i 0) < base
-      → read_from base (n * base + digit_value (get_or numeral i 0)) (drop (i + 1) numeral) ≡ read_from base n (drop i numeral)
-  unfolding read_from
-  read_digit h = rw (drop-cons numeral i 0 within, lt-ltb _ _ h, add-one)
-
-  pub read_other : base ≤ digit_value (get_or numeral i 0) → read_from base n (drop i numeral) ≡ Number.Malformed
-  unfolding read_from
-  read_other h = rw (drop-cons numeral i 0 within, le-ltb _ _ h)
-
-pub read_all : (base n : ℕ) (numeral : List ℕ) (i : ℕ) → length numeral ≤ i → read_from base n (drop i numeral) ≡ Number.Value n
+pub reading_ends : {base n i : ℕ} {numeral : List ℕ} → Reading base numeral n i → length numeral ≤ i → Some n ≡ number_in base numeral
 unfolding read_from
-read_all base n numeral i h = rw (drop_of_length-le numeral h)
+reading_ends {numeral = numeral} r h = rw (drop_of_length-le numeral h) at r.same
+
+module _ {base n i : ℕ} {numeral : List ℕ} (r : Reading base numeral n i) where
+  -- What comes of the next digit fits.
+  pub reading_fits : {d : ℕ} → d < base → base ≤ 16 → i + 1 ≤ 16 → n * base + d < 2 ^ 64
+  reading_fits {d} h low room =
+      let below : n * base + d < base ^ (i + 1) = rw (add-one, pow-suc) (digits_lt r.below h) in
+      let least : base ^ (i + 1) ≤ 16 ^ (i + 1) = pow-le-pow_left low (i + 1) in
+      let most : 16 ^ (i + 1) ≤ 16 ^ 16 = pow-le-pow_right {n = 16} (omega arith) room in
+      omega arith
+
+  module _ (within : i < length numeral) where
+    pub reading_digit : {d : ℕ} → digit_value (get_or numeral i 0) ≡ Some d → d < base → Reading base numeral (n * base + d) (i + 1)
+    unfolding read_from byte_value
+    reading_digit {d} e h = record {
+      same = rw add-one (rw (drop-cons numeral i 0 within, e, lt-ltb d base h) at r.same);
+      below = rw (add-one, pow-suc) (digits_lt r.below h);
+    }
+
+    -- A digit of a larger base, or no digit at all.
+    pub reading_large : {d : ℕ} → digit_value (get_or numeral i 0) ≡ Some d → base ≤ d → None ≡ number_in base numeral
+    unfolding read_from byte_value
+    reading_large {d} e h = rw (drop-cons numeral i 0 within, e, le-ltb d base h) at r.same
+
+    pub reading_other : digit_value (get_or numeral i 0) ≡ None → base ≤ 16 → None ≡ number_in base numeral
+    unfolding read_from byte_value
+    reading_other e h = rw (drop-cons numeral i 0 within, e, le-ltb 16 base h) at r.same
 
 -- ---- Bounds
 
--- k digits write less than base ^ k.
-pub digit_below : (base n d k : ℕ) → n < base ^ k → d < base → n * base + d < base ^ (k + 1)
-digit_below base n d k h e = rw (add-one, pow-suc) (digits_lt h e)
-
-pub digits_fit : (base k : ℕ) → base ≤ 16 → k ≤ 16 → base ^ k ≤ 2 ^ 64
-digits_fit base k h e = le_trans (pow-le-pow_left h k) (pow-le-pow_right {n = 16} (omega arith) e)
-
-digits_of_all : (base : ℕ) (bs : List ℕ) → all_digits base bs ≡ true → Digits (replicate (length bs) base) (map digit_value bs)
+digits_of_all : (base : ℕ) (bs : List ℕ) → all_digits base bs ≡ true → Digits (replicate (length bs) base) (map byte_value bs)
 unfolding all_digits Digits
 digits_of_all base [] h = tt
 digits_of_all base (b ∷ bs) h =
-    let tests = both_true (ltb (digit_value b) base) (all_digits base bs) h in
-    (ltb-true (digit_value b) base tests.0, digits_of_all base bs tests.1)
+    let tests = both_true (ltb (byte_value b) base) (all_digits base bs) h in
+    (ltb-true (byte_value b) base tests.0, digits_of_all base bs tests.1)
 
 -- A number is below the base to the power of its digits' count.
-pub numeral_below : (base : ℕ) (numeral : List ℕ) (v : ℕ) → number_in base numeral ≡ Number.Value v → v < base ^ length numeral
+pub numeral_below : (base : ℕ) (numeral : List ℕ) (v : ℕ) → number_in base numeral ≡ Some v → v < base ^ length numeral
 unfolding number_in
 numeral_below base numeral v e =
     let radices : List ℕ = replicate (length numeral) base in
-    let held = cond_held (all_digits base numeral) e (λ other. let z : ◌≡◌ {A = ℕ} 0 1 = cc in omega arith) in
-    let same : number_of radices (map digit_value numeral) ≡ v = cc held.1 in
-    rw (← same, ← count_same (length numeral) base) (number_below radices (map digit_value numeral) (digits_of_all base numeral held.0))
+    let held = cond_held (all_digits base numeral) e (λ other. cc) in
+    let same : number_of radices (map byte_value numeral) ≡ v = cc held.1 in
+    rw (← same, ← count_same (length numeral) base) (number_below radices (map byte_value numeral) (digits_of_all base numeral held.0))

@@ -2,40 +2,32 @@
 ghost use Rattle.std.specs.Prelude.{◌≡◌, ◌≤◌, length};
 ghost use Rattle.wsjtx_vectors.specs.Number.{digit_value, number_in};
 
-// What a numeral says.
-#[derive(Clone, Copy)]
-pub(crate) enum Number {
-    Value(u64),
-    Malformed,
-}
-
-// The value of a decimal or lower-case hexadecimal digit; of any other byte 16, which is no
-// digit of any base.
-pub(crate) fn digit_value(byte: u8) -> u64
+// The value of a decimal or lower-case hexadecimal digit. char::to_digit would take capitals too.
+#[tactic(auto, unfolding(crate::specs::Number::digit_value))]
+pub(crate) fn digit_value(byte: u8) -> Option<u8>
     ensures { result ≡ digit_value byte }
 {
     match byte {
-        b'0'..=b'9' => (byte - b'0') as u64,
-        b'a'..=b'f' => (byte - b'a') as u64 + 10,
-        _ => 16,
+        b'0'..=b'9' => Some(byte - b'0'),
+        b'a'..=b'f' => Some(byte - b'a' + 10),
+        _ => None,
     }
 }
 
-// The number that a numeral writes. It has at most 16 digits, so that the number fits.
-pub(crate) fn read(base: u64, numeral: &[u8]) -> Number
+// The number that a numeral writes, where each byte is a digit of the base. It has at most 16
+// digits, so that the number fits. u64::from_str_radix would take a plus sign and capitals too.
+pub(crate) fn read(base: u64, numeral: &[u8]) -> Option<u64>
     requires base_bound { base ≤ 16 }
     requires numeral_len_bound { length numeral.now ≤ 16 }
     ensures { result ≡ number_in base numeral.now }
 {
     let mut number = 0u64;
-    let mut i = 0;
-    while i < numeral.len() {
-        let digit = digit_value(numeral[i]);
+    for byte in numeral {
+        let digit = u64::from(digit_value(*byte)?);
         if base <= digit {
-            return Number::Malformed;
+            return None;
         }
         number = number * base + digit;
-        i += 1;
     }
-    Number::Value(number)
+    Some(number)
 }

@@ -1,32 +1,29 @@
 // Prints what is answered: a word, a frame, a message, or in its stead the refusal.
-use frame::WriteAnswer;
-use message::{MessageAnswer, WordAnswer};
 use refusal::Refusal;
 use std::io;
 use std::io::Write;
 
-pub(crate) fn print<W: Write>(out: &mut W, text: &[u8]) -> io::Result<()> {
-    out.write_all(text)
-}
-
 pub(crate) fn print_bar<W: Write>(out: &mut W) -> io::Result<()> {
-    print(out, b"|")
+    out.write_all(b"|")
 }
 
-fn print_refusal<W: Write>(out: &mut W, refusal: Refusal) -> io::Result<()> {
-    write!(out, "refused {} {}", refusal.number, refusal.place)
+// What is answered, as `print_value` prints it, or the refusal.
+fn print_answer<W: Write, T: Drop, F: FnOnce(&mut W, T) -> io::Result<()>>(
+    out: &mut W,
+    answer: Result<T, Refusal>,
+    print_value: F,
+) -> io::Result<()>
+    requires { F.IsAlwaysCallable print_value }
+{
+    match answer {
+        Ok(value) => print_value(out, value),
+        Err(refusal) => write!(out, "refused {} {}", refusal.number(), refusal.place()),
+    }
 }
 
 // A word is printed with as many digits as a vector's word has.
-fn print_word<W: Write>(out: &mut W, word: u64) -> io::Result<()> {
-    write!(out, "{word:013x}")
-}
-
-pub(crate) fn print_word_answer<W: Write>(out: &mut W, answer: WordAnswer) -> io::Result<()> {
-    match answer {
-        WordAnswer::Word(word) => print_word(out, word),
-        WordAnswer::Refused(refusal) => print_refusal(out, refusal),
-    }
+pub(crate) fn print_word<W: Write>(out: &mut W, answer: Result<u64, Refusal>) -> io::Result<()> {
+    print_answer(out, answer, |out, word| write!(out, "{word:013x}"))
 }
 
 fn print_symbols<W: Write>(out: &mut W, symbols: &[u8]) -> io::Result<()> {
@@ -36,38 +33,42 @@ fn print_symbols<W: Write>(out: &mut W, symbols: &[u8]) -> io::Result<()> {
     Ok(())
 }
 
-pub(crate) fn print_write_answer<W: Write>(
+// The frame that `write` writes.
+pub(crate) fn print_frame<W: Write, F: FnOnce(&mut [u8]) -> Result<(), Refusal>>(
     out: &mut W,
-    answer: WriteAnswer,
-    symbols: &[u8],
-) -> io::Result<()> {
-    match answer {
-        WriteAnswer::Done => print_symbols(out, symbols),
-        WriteAnswer::Refused(refusal) => print_refusal(out, refusal),
-    }
+    write: F,
+) -> io::Result<()>
+    requires { F.IsAlwaysCallable write }
+{
+    let mut symbols = [0u8; 162];
+    let answer = write(&mut symbols);
+    print_answer(out, answer, |out, ()| print_symbols(out, &symbols))
 }
 
-fn print_message<W: Write>(
+fn print_fields<W: Write>(
     out: &mut W,
     callsign: &[u8],
     locator: &[u8],
     power: u32,
 ) -> io::Result<()> {
-    print(out, callsign)?;
+    out.write_all(callsign)?;
     print_bar(out)?;
-    print(out, locator)?;
+    out.write_all(locator)?;
     print_bar(out)?;
     write!(out, "{power}")
 }
 
-pub(crate) fn print_message_answer<W: Write>(
+// The message whose callsign and locator `read` writes, and whose power it answers.
+pub(crate) fn print_message<W: Write, F: FnOnce(&mut [u8], &mut [u8]) -> Result<u32, Refusal>>(
     out: &mut W,
-    answer: MessageAnswer,
-    callsign: &[u8],
-    locator: &[u8],
-) -> io::Result<()> {
-    match answer {
-        MessageAnswer::Power(power) => print_message(out, callsign, locator, power),
-        MessageAnswer::Refused(refusal) => print_refusal(out, refusal),
-    }
+    read: F,
+) -> io::Result<()>
+    requires { F.IsAlwaysCallable read }
+{
+    let mut callsign = [0u8; 6];
+    let mut locator = [0u8; 4];
+    let answer = read(&mut callsign, &mut locator);
+    print_answer(out, answer, |out, power| {
+        print_fields(out, &callsign, &locator, power)
+    })
 }

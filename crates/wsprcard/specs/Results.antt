@@ -1,16 +1,13 @@
 -- The structs of the C interface for the answers of the layers, and the layers' answers in them.
-use Rattle.std.specs.Prelude.{ℕ, cond, eqb, ℤ}
-use Rattle.refusal.specs.Refusals.{refusal}
+use Rattle.std.specs.Prelude.{ℕ, cond, eqb, ℤ, Result, Ok, Err, Option, Some, None}
 use Rattle.refusal.specs.declared.Refusal.{Refusal}
+use Rattle.refusal.specs.Refusals.{RefusalNumbers, success, numbers_of, refusal_from}
 use Rattle.message.specs.Answer.{WordNumbers, MessageNumbers}
-use Rattle.message.specs.declared.WordAnswer.{WordAnswer}
-use Rattle.message.specs.declared.MessageAnswer.{MessageAnswer}
-use Rattle.frame.specs.declared.WriteAnswer.{WriteAnswer}
 use Rattle.repair.specs.Answer.{RepairNumbers}
-use Rattle.repair.specs.declared.RepairAnswer.{RepairAnswer}
 use Rattle.telemetry.specs.Answer.{TelemetryNumbers}
+use Rattle.repair.specs.declared.Nearest.{Nearest}
 use Rattle.telemetry.specs.declared.Measured.{Measured}
-use Rattle.telemetry.specs.declared.TelemetryAnswer.{TelemetryAnswer}
+use Rattle.telemetry.specs.declared.Reading.{Reading}
 use Rattle.wsprcard.specs.declared.WsprWritten.{WsprWritten}
 use Rattle.wsprcard.specs.declared.WsprWord.{WsprWord}
 use Rattle.wsprcard.specs.declared.WsprMessage.{WsprMessage}
@@ -19,7 +16,7 @@ use Rattle.wsprcard.specs.declared.U4bReading.{U4bReading}
 
 -- ---- The answers' result numbers, as the layer's definition gives them, field by field
 
-unfoldable pub written_result : Refusal → WsprWritten
+unfoldable pub written_result : RefusalNumbers → WsprWritten
 written_result numbers = record { refusal = numbers.number; place = numbers.place }
 
 unfoldable pub word_result : WordNumbers → WsprWord
@@ -34,26 +31,31 @@ repaired_result numbers = record { refusal = numbers.number; place = numbers.pla
 unfoldable pub reading_result : TelemetryNumbers → U4bReading
 reading_result numbers = record { refusal = numbers.number; place = numbers.place; reading = numbers.reading }
 
+-- Number and place of what is refused; success where nothing is.
+abbrev pub numbers_if_refused : Option Refusal → RefusalNumbers
+numbers_if_refused (Some f) = numbers_of f
+numbers_if_refused None = success
+
 -- ---- The layers' answers in the structs, of which the exports promise what the layers promise
 
 -- A refusal number of 0 is success: the answer is the one without a refusal. Any other number is that of a refusal, with its place.
-abbrev pub answer_in : {A : Type 0} → ℕ → ℕ → A → (Refusal → A) → A
-answer_in number place done refused = cond (eqb number 0) done (refused (refusal number place))
+abbrev pub answer_in : {A : Type 0} → ℕ → ℕ → A → Result A Refusal
+answer_in number place done = cond (eqb number 0) (Ok done) (Err (refusal_from number place))
 
-abbrev pub write_answer_in : WsprWritten → WriteAnswer
-write_answer_in r = answer_in r.refusal r.place WriteAnswer.Done WriteAnswer.Refused
+abbrev pub write_answer_in : WsprWritten → Result (Unit {0}) Refusal
+write_answer_in r = answer_in r.refusal r.place tt
 
-abbrev pub word_answer_in : WsprWord → WordAnswer
-word_answer_in r = answer_in r.refusal r.place (WordAnswer.Word r.word) WordAnswer.Refused
+abbrev pub word_answer_in : WsprWord → Result ℕ Refusal
+word_answer_in r = answer_in r.refusal r.place r.word
 
-abbrev pub message_answer_in : WsprMessage → MessageAnswer
-message_answer_in r = answer_in r.refusal r.place (MessageAnswer.Power r.power) MessageAnswer.Refused
+abbrev pub message_answer_in : WsprMessage → Result ℕ Refusal
+message_answer_in r = answer_in r.refusal r.place r.power
 
-abbrev pub repair_answer_in : WsprRepaired → RepairAnswer
-repair_answer_in r = answer_in r.refusal r.place (RepairAnswer.Word r.nearest) RepairAnswer.Refused
+abbrev pub repair_answer_in : WsprRepaired → Result Nearest Refusal
+repair_answer_in r = answer_in r.refusal r.place r.nearest
 
-abbrev pub telemetry_answer_in : U4bReading → TelemetryAnswer
-telemetry_answer_in r = answer_in r.refusal r.place (TelemetryAnswer.Telemetry r.reading) TelemetryAnswer.Refused
+abbrev pub telemetry_answer_in : U4bReading → Result Reading Refusal
+telemetry_answer_in r = answer_in r.refusal r.place r.reading
 
 -- ---- The arguments of telemetry as the layer's record
 

@@ -14,12 +14,11 @@ ghost use Rattle.repair.specs.Flips.{FlipsRepaired, TwoFlipsRepaired, FourFlipsR
 ghost use Rattle.repair.specs.LiveCounts.{CleanRepaired, OneFlipRepaired, NeverOverBudget};
 ghost use Rattle.telemetry.specs.Answer.{telemetry_written, telemetry_read, telemetry_numbers, callsign_after_telemetry, locator_after_telemetry};
 ghost use Rattle.telemetry.specs.RoundTrip.{TelemetryReadsBack, TelemetryWithinSteps, TelemetryWritesBack, TelemetryRefusedExactly};
-ghost use Rattle.wsprcard.specs.Results.{written_result, word_result, message_result, repaired_result, reading_result, write_answer_in, word_answer_in, message_answer_in, repair_answer_in, telemetry_answer_in, measured_from};
+ghost use Rattle.wsprcard.specs.Results.{written_result, word_result, message_result, repaired_result, reading_result, write_answer_in, word_answer_in, message_answer_in, repair_answer_in, telemetry_answer_in, measured_from, numbers_if_refused};
 
-use frame::WriteAnswer;
-use message::{MessageAnswer, WordAnswer};
-use repair::{Nearest, RepairAnswer};
-use telemetry::{Measured, Reading, Sensors, TelemetryAnswer};
+use refusal::Refusal;
+use repair::Nearest;
+use telemetry::{Measured, Reading, Sensors};
 use u4b::channel::{Channel, SubSquare};
 
 // What stands in the result of a refusal.
@@ -43,6 +42,9 @@ const NO_READING: Reading = Reading {
     },
 };
 
+// The structs of the C interface. A struct for each kind of answer, and none over them all: an exported
+// function can't give a generic one.
+//
 // Refusal number (0: success) and place.
 #[repr(C)]
 #[derive(Clone, Copy)]
@@ -90,93 +92,82 @@ pub struct U4bReading {
     pub reading: Reading,
 }
 
+// A refusal by its number and place, success where there is none.
+#[tactic(auto, unfolding(crate::specs::Results::written_result))]
+fn refused(refusal: Option<Refusal>) -> WsprWritten
+    ensures { result ≡ written_result (numbers_if_refused refusal) }
+{
+    match refusal {
+        Some(refusal) => WsprWritten {
+            refusal: refusal.number(),
+            place: refusal.place(),
+        },
+        None => WsprWritten {
+            refusal: 0,
+            place: 0,
+        },
+    }
+}
+
+// The results are made by a function each, as the structs are.
+
 // The result of writing a frame.
-fn written_result(answer: WriteAnswer) -> WsprWritten
+fn written_result(answer: Result<(), Refusal>) -> WsprWritten
     ensures { result ≡ written_result (write_numbers answer) }
 {
-    match answer {
-        WriteAnswer::Done => WsprWritten {
-            refusal: 0,
-            place: 0,
-        },
-        WriteAnswer::Refused(refused) => WsprWritten {
-            refusal: refused.number,
-            place: refused.place,
-        },
-    }
+    refused(answer.err())
 }
 
-// The result with a word.
-fn word_result(answer: WordAnswer) -> WsprWord
+// The result with a word, 0 where there is none.
+fn word_result(answer: Result<u64, Refusal>) -> WsprWord
     ensures { result ≡ word_result (word_numbers answer) }
 {
-    match answer {
-        WordAnswer::Word(word) => WsprWord {
-            refusal: 0,
-            place: 0,
-            word,
-        },
-        WordAnswer::Refused(refusal) => WsprWord {
-            refusal: refusal.number,
-            place: refusal.place,
-            word: 0, // "zero everywhere else"
-        },
+    let WsprWritten { refusal, place } = refused(answer.err());
+    WsprWord {
+        refusal,
+        place,
+        word: answer.unwrap_or(0),
     }
 }
 
-// The result with a message's power.
-fn message_result(answer: MessageAnswer) -> WsprMessage
+// The result with a message's power, 0 where there is none.
+fn message_result(answer: Result<u32, Refusal>) -> WsprMessage
     ensures { result ≡ message_result (message_numbers answer) }
 {
-    match answer {
-        MessageAnswer::Power(power) => WsprMessage {
-            refusal: 0,
-            place: 0,
-            power,
-        },
-        MessageAnswer::Refused(refusal) => WsprMessage {
-            refusal: refusal.number,
-            place: refusal.place,
-            power: 0,
-        },
+    let WsprWritten { refusal, place } = refused(answer.err());
+    WsprMessage {
+        refusal,
+        place,
+        power: answer.unwrap_or(0),
     }
 }
 
-// The result of a repair.
-fn repaired_result(answer: RepairAnswer) -> WsprRepaired
+// The result of a repair, 0 everywhere where there is no word.
+fn repaired_result(answer: Result<Nearest, Refusal>) -> WsprRepaired
     ensures { result ≡ repaired_result (repair_numbers answer) }
 {
-    match answer {
-        RepairAnswer::Word(nearest) => WsprRepaired {
-            refusal: 0,
-            place: 0,
-            nearest,
-        },
-        RepairAnswer::Refused(refusal) => WsprRepaired {
-            refusal: refusal.number,
-            place: refusal.place,
-            nearest: NO_NEAREST,
-        },
+    let WsprWritten { refusal, place } = refused(answer.err());
+    WsprRepaired {
+        refusal,
+        place,
+        nearest: answer.unwrap_or(NO_NEAREST),
     }
 }
 
-// The result of reading telemetry.
-fn reading_result(answer: TelemetryAnswer) -> U4bReading
+// The result of reading telemetry, 0 everywhere where there are no readings.
+fn reading_result(answer: Result<Reading, Refusal>) -> U4bReading
     ensures { result ≡ reading_result (telemetry_numbers answer) }
 {
-    match answer {
-        TelemetryAnswer::Telemetry(reading) => U4bReading {
-            refusal: 0,
-            place: 0,
-            reading,
-        },
-        TelemetryAnswer::Refused(refusal) => U4bReading {
-            refusal: refusal.number,
-            place: refusal.place,
-            reading: NO_READING,
-        },
+    let WsprWritten { refusal, place } = refused(answer.err());
+    U4bReading {
+        refusal,
+        place,
+        reading: answer.unwrap_or(NO_READING),
     }
 }
+
+// Below, the C interface sets what is lent and given in each call: callsign, locator and power, a limit and
+// a budget one by one, and a function for each call however alike they are.
 
 // The word of a message, the same as that of its capital form.
 #[unsafe(no_mangle)]

@@ -1,5 +1,4 @@
 -- `convolution::encode` meets its contract: each turn writes the two coded bits of a step.
--- The measure is the number of steps left.
 -- Assumes nothing.
 use mathlib.Core.Path.{ap, ◌∙◌}
 use native.Mathlib.Omega.{arith}

@@ -1,6 +1,6 @@
 -- `convolution::masked_parity` meets its contract: two folds, and the sum of the eight bits that they leave.
 -- Assumes nothing.
-use mathlib.Core.Path.{◌≡◌, refl}
+use mathlib.Core.Path.{◌≡◌}
 use Prim.Native.Nat.{ℕ, ◌*◌, ◌/◌, ◌^◌, ◌<◌}
 use native.Mathlib.Nat.{le_of_lt, lt_of_le_of_lt, mul-le-mul}
 use native.Mathlib.Omega.{arith}
@@ -32,4 +32,4 @@ parity-found mask register folded bits factor h e f g =
     rw (e, f, g) (parity_product (bit_and register mask) (lt_of_le_of_lt (and_le_l register mask) h))
 
 pub returns : goal.returns
-returns c = search (parity-found, refl)
+returns c = search parity-found

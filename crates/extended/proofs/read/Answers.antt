@@ -2,6 +2,7 @@
 -- rest follows from the definitions' laws.
 -- Assumes nothing.
 use mathlib.Core.Path.{sym, ◌∙◌}
+use Rattle.std.proofs.lemmas.Result.{err_from_is_err_and}
 use Rattle.extended.specs.Answer.{readings_after}
 use Rattle.extended.proofs.AnswerLaws.{read_each, read_refused, read_payload, readings_of_payload}
 use Rattle.extended.proofs.RoundTripLaws.{readings_each, payload_small, read_promised}
@@ -11,61 +12,34 @@ pub returns-then-not-one_each : goal.returns-then-not-one_each
 unfolding readings_after
 returns-then-not-one_each c =
     let a = c.args in
-    let promised = read_promised a.callsign.now a.locator.now a.power a.fields.now a.readings.now _
-    (read_each a.callsign.now a.locator.now a.power a.fields.now _ (sym c.one_each.ensures ∙ c.if-not-one_each.true)) in
-    record {
-      answer = promised.its_answer;
-      numbers = promised.its_numbers;
-      readings_after = promised.its_readings;
-      as_capitals = promised.its_capitals;
-      readings_as_capitals = promised.its_readings_capitals;
-      writes_back = promised.its_writing;
-      refuses_exactly = promised.its_refusal;
-      one_kind = promised.its_kind;
-    }
+    read_promised a.callsign.now a.locator.now a.power a.fields.now a.readings.now _
+    (read_each a.callsign.now a.locator.now a.power a.fields.now _ (sym c.one_each.ensures ∙ c.if-not-one_each.true))
 
 pub read_payload-requires : goal.read_payload-requires
 read_payload-requires c =
     let a = c.args in
-    let small = payload_small a.callsign.now a.locator.now a.power _ (sym c.read.ensures.answer ∙ c.in-Payload.is) in
+    let small = payload_small a.callsign.now a.locator.now a.power _ (sym c.read.ensures.answer ∙ c.in_ok-payload.was) in
     record {
       upper_bound = small.0;
       lower_bound = small.1;
       readings_len = readings_each a.fields.now _ (sym c.one_each.ensures ∙ c.if-not-one_each.false);
     }
 
-pub returns-in-Payload : goal.returns-in-Payload
-returns-in-Payload c =
+pub returns : goal.returns
+returns c =
     let a = c.args in
-    let payload = sym c.read.ensures.answer ∙ c.in-Payload.is in
+    let payload = sym c.read.ensures.answer ∙ c.in_ok-payload.was in
     let promised = read_promised a.callsign.now a.locator.now a.power a.fields.now a.readings.now _
     (read_payload a.callsign.now a.locator.now a.power a.fields.now _ (sym c.one_each.ensures ∙ c.if-not-one_each.false) _ payload
     ∙ sym c.read_payload.ensures.answer) in
     let after = rw (← c.read_payload.ensures.answer, ← (readings_of_payload a.callsign.now a.locator.now a.power a.fields.now _ payload)) at c.read_payload.ensures.readings_after in
-    rw after (record {
-      answer = promised.its_answer;
-      numbers = promised.its_numbers;
-      readings_after = promised.its_readings;
-      as_capitals = promised.its_capitals;
-      readings_as_capitals = promised.its_readings_capitals;
-      writes_back = promised.its_writing;
-      refuses_exactly = promised.its_refusal;
-      one_kind = promised.its_kind;
-    })
+    rw after promised
 
-pub returns-in-Refused : goal.returns-in-Refused
+pub returns-in_err-payload : goal.returns-in_err-payload
 unfolding readings_after
-returns-in-Refused c =
+returns-in_err-payload c =
     let a = c.args in
-    let promised = read_promised a.callsign.now a.locator.now a.power a.fields.now a.readings.now _
-    (read_refused a.callsign.now a.locator.now a.power a.fields.now _ (sym c.one_each.ensures ∙ c.if-not-one_each.false) _ (sym c.read.ensures.answer ∙ c.in-Refused.is)) in
-    record {
-      answer = promised.its_answer;
-      numbers = promised.its_numbers;
-      readings_after = promised.its_readings;
-      as_capitals = promised.its_capitals;
-      readings_as_capitals = promised.its_readings_capitals;
-      writes_back = promised.its_writing;
-      refuses_exactly = promised.its_refusal;
-      one_kind = promised.its_kind;
-    }
+    let passed = err_from_is_err_and c.from_residual.result c.from_residual.ensures.1 in
+    rw (passed.1, passed.2)
+    (read_promised a.callsign.now a.locator.now a.power a.fields.now a.readings.now _
+    (read_refused a.callsign.now a.locator.now a.power a.fields.now _ (sym c.one_each.ensures ∙ c.if-not-one_each.false) _ (sym c.read.ensures.answer ∙ c.in_err-payload.was)))

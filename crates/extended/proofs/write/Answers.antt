@@ -9,6 +9,7 @@ use Rattle.extended.specs.Fields.{fields_of, codes_of}
 use Rattle.extended.specs.Number.{extended_payload}
 use Rattle.extended.specs.Answer.{extended_first, extended_callsign, extended_locator}
 use Rattle.extended.proofs.AnswerLaws.{written_each, written_length, written_message, message_first, message_third, message_table, message_header, message_payload}
+use Rattle.extended.proofs.TableLaws.{not_legal_table}
 use Rattle.extended.proofs.RoundTripLaws.{readings_each, write_promised}
 use Rattle.extended.proofs.write.Goals as goal
 
@@ -16,112 +17,51 @@ pub returns-then-not-one_each : goal.returns-then-not-one_each
 unfolding content_after
 returns-then-not-one_each c =
     let a = c.args in
-    let promised = write_promised a.callsign.now a.locator.now a.header a.fields.now a.readings.now _
-    (written_each a.callsign.now a.locator.now a.header a.fields.now a.readings.now (sym c.one_each.ensures ∙ c.if-not-one_each.true)) in
-    record {
-      answer = promised.its_answer;
-      numbers = promised.its_numbers;
-      callsign_after = promised.its_callsign_after;
-      locator_after = promised.its_locator_after;
-      reads_back = promised.its_reading;
-      nearest = promised.its_nearest;
-      never_shared = promised.its_codes;
-      in_capitals = promised.its_capitals;
-    }
+    write_promised a.callsign.now a.locator.now a.header a.fields.now a.readings.now _
+    (written_each a.callsign.now a.locator.now a.header a.fields.now a.readings.now (sym c.one_each.ensures ∙ c.if-not-one_each.true))
 
 pub returns-then-not-right_lengths : goal.returns-then-not-right_lengths
 unfolding content_after
 returns-then-not-right_lengths c =
     let a = c.args in
-    let promised = write_promised a.callsign.now a.locator.now a.header a.fields.now a.readings.now _
-    (written_length a.callsign.now a.locator.now a.header a.fields.now a.readings.now (sym c.one_each.ensures ∙ c.if-not-one_each.false) (sym c.right_lengths.ensures ∙ c.if-not-right_lengths.true)) in
-    record {
-      answer = promised.its_answer;
-      numbers = promised.its_numbers;
-      callsign_after = promised.its_callsign_after;
-      locator_after = promised.its_locator_after;
-      reads_back = promised.its_reading;
-      nearest = promised.its_nearest;
-      never_shared = promised.its_codes;
-      in_capitals = promised.its_capitals;
-    }
+    write_promised a.callsign.now a.locator.now a.header a.fields.now a.readings.now _
+    (written_length a.callsign.now a.locator.now a.header a.fields.now a.readings.now (sym c.one_each.ensures ∙ c.if-not-one_each.false) (sym c.right_lengths.ensures ∙ c.if-not-right_lengths.true))
 
 pub returns-then-not-is_first_character : goal.returns-then-not-is_first_character
 unfolding content_after
 returns-then-not-is_first_character c =
     let a = c.args in
-    let promised = write_promised a.callsign.now a.locator.now a.header a.fields.now a.readings.now _
+    write_promised a.callsign.now a.locator.now a.header a.fields.now a.readings.now _
     (written_message a.callsign.now a.locator.now a.header a.fields.now a.readings.now (sym c.one_each.ensures ∙ c.if-not-one_each.false) (sym c.right_lengths.ensures ∙ c.if-not-right_lengths.false)
-    ∙ message_first a.header (fields_of a.fields.now) a.readings.now (sym c.is_first_character.ensures ∙ c.if-not-is_first_character.true)) in
-    record {
-      answer = promised.its_answer;
-      numbers = promised.its_numbers;
-      callsign_after = promised.its_callsign_after;
-      locator_after = promised.its_locator_after;
-      reads_back = promised.its_reading;
-      nearest = promised.its_nearest;
-      never_shared = promised.its_codes;
-      in_capitals = promised.its_capitals;
-    }
+    ∙ message_first a.header (fields_of a.fields.now) a.readings.now (sym c.is_first_character.ensures ∙ c.if-not-is_first_character.true))
 
 pub returns-then-not-is_third_character : goal.returns-then-not-is_third_character
 unfolding content_after
 returns-then-not-is_third_character c =
     let a = c.args in
-    let promised = write_promised a.callsign.now a.locator.now a.header a.fields.now a.readings.now _
+    write_promised a.callsign.now a.locator.now a.header a.fields.now a.readings.now _
     (written_message a.callsign.now a.locator.now a.header a.fields.now a.readings.now (sym c.one_each.ensures ∙ c.if-not-one_each.false) (sym c.right_lengths.ensures ∙ c.if-not-right_lengths.false)
-    ∙ message_third a.header (fields_of a.fields.now) a.readings.now (sym c.is_first_character.ensures ∙ c.if-not-is_first_character.false) (sym c.is_third_character.ensures ∙ c.if-not-is_third_character.true)) in
-    record {
-      answer = promised.its_answer;
-      numbers = promised.its_numbers;
-      callsign_after = promised.its_callsign_after;
-      locator_after = promised.its_locator_after;
-      reads_back = promised.its_reading;
-      nearest = promised.its_nearest;
-      never_shared = promised.its_codes;
-      in_capitals = promised.its_capitals;
-    }
+    ∙ message_third a.header (fields_of a.fields.now) a.readings.now (sym c.is_first_character.ensures ∙ c.if-not-is_first_character.false) (sym c.is_third_character.ensures ∙ c.if-not-is_third_character.true))
 
-pub returns-then-not-is_legal : goal.returns-then-not-is_legal
+pub returns-in_default : goal.returns-in_default
 unfolding content_after
-returns-then-not-is_legal c =
+returns-in_default c =
     let a = c.args in
-    let promised = write_promised a.callsign.now a.locator.now a.header a.fields.now a.readings.now _
+    write_promised a.callsign.now a.locator.now a.header a.fields.now a.readings.now _
     (written_message a.callsign.now a.locator.now a.header a.fields.now a.readings.now (sym c.one_each.ensures ∙ c.if-not-one_each.false) (sym c.right_lengths.ensures ∙ c.if-not-right_lengths.false)
-    ∙ message_table a.header (fields_of a.fields.now) a.readings.now (sym c.is_first_character.ensures ∙ c.if-not-is_first_character.false) (sym c.is_third_character.ensures ∙ c.if-not-is_third_character.false) (sym c.is_legal.ensures ∙ c.if-not-is_legal.true)) in
-    record {
-      answer = promised.its_answer;
-      numbers = promised.its_numbers;
-      callsign_after = promised.its_callsign_after;
-      locator_after = promised.its_locator_after;
-      reads_back = promised.its_reading;
-      nearest = promised.its_nearest;
-      never_shared = promised.its_codes;
-      in_capitals = promised.its_capitals;
-    }
+    ∙ message_table a.header (fields_of a.fields.now) a.readings.now (sym c.is_first_character.ensures ∙ c.if-not-is_first_character.false) (sym c.is_third_character.ensures ∙ c.if-not-is_third_character.false) (not_legal_table (fields_of a.fields.now) c.in_default.ensures))
 
 pub returns-then-not-legal_slot_and_type : goal.returns-then-not-legal_slot_and_type
 unfolding content_after
 returns-then-not-legal_slot_and_type c =
     let a = c.args in
-    let promised = write_promised a.callsign.now a.locator.now a.header a.fields.now a.readings.now _
+    write_promised a.callsign.now a.locator.now a.header a.fields.now a.readings.now _
     (written_message a.callsign.now a.locator.now a.header a.fields.now a.readings.now (sym c.one_each.ensures ∙ c.if-not-one_each.false) (sym c.right_lengths.ensures ∙ c.if-not-right_lengths.false)
-    ∙ message_header a.header (fields_of a.fields.now) a.readings.now (sym c.is_first_character.ensures ∙ c.if-not-is_first_character.false) (sym c.is_third_character.ensures ∙ c.if-not-is_third_character.false) (sym c.is_legal.ensures ∙ c.if-not-is_legal.false) (sym c.legal_slot_and_type.ensures ∙ c.if-not-legal_slot_and_type.true)) in
-    record {
-      answer = promised.its_answer;
-      numbers = promised.its_numbers;
-      callsign_after = promised.its_callsign_after;
-      locator_after = promised.its_locator_after;
-      reads_back = promised.its_reading;
-      nearest = promised.its_nearest;
-      never_shared = promised.its_codes;
-      in_capitals = promised.its_capitals;
-    }
+    ∙ message_header a.header (fields_of a.fields.now) a.readings.now (sym c.is_first_character.ensures ∙ c.if-not-is_first_character.false) (sym c.is_third_character.ensures ∙ c.if-not-is_third_character.false) c.in-Some.ensures.0 (sym c.legal_slot_and_type.ensures ∙ c.if-not-legal_slot_and_type.true))
 
 pub payload_from-payload-requires : goal.payload_from-payload-requires
 payload_from-payload-requires c = record {
-  fields_value = sym c.is_legal.ensures ∙ c.if-not-is_legal.false;
-  readings_len = readings_each c.args.fields.now _ (sym c.one_each.ensures ∙ c.if-not-one_each.false);
+  readings_len = rw c.in-Some.ensures.1 (readings_each c.args.fields.now _ (sym c.one_each.ensures ∙ c.if-not-one_each.false));
   header_value = sym c.legal_slot_and_type.ensures ∙ c.if-not-legal_slot_and_type.false;
 }
 
@@ -129,20 +69,11 @@ pub returns : goal.returns
 unfolding callsign_after_payload locator_after_payload extended_callsign extended_locator
 returns c =
     let a = c.args in
-    let written = rw c.payload_from-payload.ensures at c.write.ensures in
+    let written = rw (c.payload_from-payload.ensures, c.in-Some.ensures.1) at c.write.ensures in
     let as_payload = U4b.written_message extended_first a.callsign.now a.locator.now (extended_payload a.header (fields_of a.fields.now) (codes_of (fields_of a.fields.now) a.readings.now))
     (sym c.right_lengths.ensures ∙ c.if-not-right_lengths.false) in
     let answer = written_message a.callsign.now a.locator.now a.header a.fields.now a.readings.now (sym c.one_each.ensures ∙ c.if-not-one_each.false) (sym c.right_lengths.ensures ∙ c.if-not-right_lengths.false)
-    ∙ message_payload a.header (fields_of a.fields.now) a.readings.now (sym c.is_first_character.ensures ∙ c.if-not-is_first_character.false) (sym c.is_third_character.ensures ∙ c.if-not-is_third_character.false) (sym c.is_legal.ensures ∙ c.if-not-is_legal.false) (sym c.legal_slot_and_type.ensures ∙ c.if-not-legal_slot_and_type.false)
+    ∙ message_payload a.header (fields_of a.fields.now) a.readings.now (sym c.is_first_character.ensures ∙ c.if-not-is_first_character.false) (sym c.is_third_character.ensures ∙ c.if-not-is_third_character.false) c.in-Some.ensures.0 (sym c.legal_slot_and_type.ensures ∙ c.if-not-legal_slot_and_type.false)
     ∙ sym as_payload in
-    let promised = write_promised a.callsign.now a.locator.now a.header a.fields.now a.readings.now _ answer in
-    rw (written.answer, written.callsign_after, written.locator_after) (record {
-      answer = promised.its_answer;
-      numbers = promised.its_numbers;
-      callsign_after = promised.its_callsign_after;
-      locator_after = promised.its_locator_after;
-      reads_back = promised.its_reading;
-      nearest = promised.its_nearest;
-      never_shared = promised.its_codes;
-      in_capitals = promised.its_capitals;
-    })
+    rw (written.answer, written.callsign_after, written.locator_after)
+    (write_promised a.callsign.now a.locator.now a.header a.fields.now a.readings.now _ answer)

@@ -1,30 +1,28 @@
 -- `frame::write_message` meets its contract: one case of the answer's definition at each return; the rest follows from the definition's laws.
 -- Assumes nothing.
 use mathlib.Core.Path.{sym, ◌∙◌}
-use native.Mathlib.Omega.{arith}
+use Rattle.std.proofs.lemmas.Result.{err_from_is_err_and}
 use Rattle.frame.proofs.AnswerLaws.{message_length, message_done, message_refused}
 use Rattle.frame.proofs.RoundTripLaws.{write_message_promised, write_message_refused}
 use Rattle.frame.proofs.write_message.Goals as goal
 
-pub returns-then-frame-ne162 : goal.returns-then-frame-ne162
-returns-then-frame-ne162 c =
+pub returns-in_default : goal.returns-in_default
+returns-in_default c =
     let a = c.args in
-    let promised = write_message_refused a.callsign.now a.locator.now a.power a.frame.now _
-    (message_length a.callsign.now a.locator.now a.power a.frame.now c.if-frame-ne162.true) in
-    record { answer = promised.0; numbers = promised.1.0; frame_after = promised.1.1.0; as_capitals = promised.1.1.1.0; frame_as_capitals = promised.1.1.1.1.0; reads_back = promised.1.1.1.1.1 }
+    write_message_refused a.callsign.now a.locator.now a.power a.frame.now _
+    (message_length a.callsign.now a.locator.now a.power a.frame.now c.in_default.ensures.cases)
 
-pub returns-in-Word : goal.returns-in-Word
-returns-in-Word c =
+pub returns-in_err-word : goal.returns-in_err-word
+returns-in_err-word c =
     let a = c.args in
-    let made = sym c.pack.ensures.answer ∙ c.in-Word.is in
-    let written = message_done a.callsign.now a.locator.now a.power a.frame.now _ (omega arith) made in
-    let promised = write_message_promised a.callsign.now a.locator.now a.power a.frame.now _ _ (sym written.0) (c.write_symbols.ensures ∙ sym written.1) in
-    record { answer = promised.0; numbers = promised.1.0; frame_after = promised.1.1.0; as_capitals = promised.1.1.1.0; frame_as_capitals = promised.1.1.1.1.0; reads_back = promised.1.1.1.1.1 }
+    let whole = c.in-Some.ensures.cases in
+    let passed = err_from_is_err_and c.from_residual.result c.from_residual.ensures.1 in
+    rw (passed.1, passed.2, whole.same) (write_message_refused a.callsign.now a.locator.now a.power a.frame.now _
+    (message_refused a.callsign.now a.locator.now a.power a.frame.now _ whole.long (sym c.pack.ensures.answer ∙ c.in_err-word.was)))
 
-pub returns-in-Refused : goal.returns-in-Refused
-returns-in-Refused c =
+pub returns : goal.returns
+returns c =
     let a = c.args in
-    let refused = sym c.pack.ensures.answer ∙ c.in-Refused.is in
-    let promised = write_message_refused a.callsign.now a.locator.now a.power a.frame.now _
-    (message_refused a.callsign.now a.locator.now a.power a.frame.now _ (omega arith) refused) in
-    record { answer = promised.0; numbers = promised.1.0; frame_after = promised.1.1.0; as_capitals = promised.1.1.1.0; frame_as_capitals = promised.1.1.1.1.0; reads_back = promised.1.1.1.1.1 }
+    let made = sym c.pack.ensures.answer ∙ c.in_ok-word.was in
+    let written = message_done a.callsign.now a.locator.now a.power a.frame.now _ c.in-Some.ensures.cases.long made in
+    rw c.write_symbols.ensures (write_message_promised a.callsign.now a.locator.now a.power a.frame.now _ _ written.0 written.1)

@@ -1,26 +1,22 @@
 -- `frame::write_word` meets its contract: one case of the answer's definition at each return; the rest follows from the definition's laws.
 -- Assumes nothing.
-use mathlib.Core.Path.{sym, ◌∙◌}
 use native.Mathlib.Omega.{arith}
-use Rattle.frame.proofs.AnswerLaws.{written_length, written_large, written_done, after_word_done}
-use Rattle.frame.proofs.RoundTripLaws.{write_word_promised, write_word_refused}
+use Rattle.frame.proofs.AnswerLaws.{written_length, written_large, written_done}
+use Rattle.frame.proofs.RoundTripLaws.{write_word_refused, write_word_done}
 use Rattle.frame.proofs.write_word.Goals as goal
 
-pub returns-then-frame-ne162 : goal.returns-then-frame-ne162
-returns-then-frame-ne162 c =
+pub returns-in_default : goal.returns-in_default
+returns-in_default c =
     let a = c.args in
-    let promised = write_word_refused a.frame.now a.word _ (written_length a.frame.now a.word c.if-frame-ne162.true) in
-    record { answer = promised.0; numbers = promised.1.0; frame_after = promised.1.1.0; reads_back = promised.1.1.1 }
+    write_word_refused a.frame.now a.word _ (written_length a.frame.now a.word c.in_default.ensures.cases)
 
 pub returns-then-word : goal.returns-then-word
 returns-then-word c =
     let a = c.args in
-    let promised = write_word_refused a.frame.now a.word _ (written_large a.frame.now a.word (omega arith) (omega arith)) in
-    record { answer = promised.0; numbers = promised.1.0; frame_after = promised.1.1.0; reads_back = promised.1.1.1 }
+    let whole = c.in-Some.ensures.cases in
+    rw whole.same (write_word_refused a.frame.now a.word _ (written_large a.frame.now a.word whole.long (omega arith)))
 
 pub returns : goal.returns
 returns c =
     let a = c.args in
-    let done = written_done a.frame.now a.word (omega arith) (omega arith) in
-    let promised = write_word_promised a.frame.now a.word _ _ (sym done) (c.write_symbols.ensures ∙ sym (after_word_done a.frame.now a.word done)) in
-    record { answer = promised.0; numbers = promised.1.0; frame_after = promised.1.1.0; reads_back = promised.1.1.1 }
+    rw c.write_symbols.ensures (write_word_done a.frame.now a.word (written_done a.frame.now a.word c.in-Some.ensures.cases.long (omega arith)))

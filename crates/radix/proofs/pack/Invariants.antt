@@ -1,16 +1,12 @@
 -- `radix::pack` meets its contract. The loop's invariant: going on from the number with the radices and digits that are left
--- gives the number of all the digits. The measure is the count of radices left.
+-- gives the number of all the digits.
 -- Assumes nothing.
 
-use mathlib.Core.Path.{◌≡◌}
-use Prim.Native.Nat.{◌-◌}
-use lib.ListN.{length, drop}
-use Rattle.radix.specs.Numeral.{number_from, number_of}
+use Rattle.std.specs.Iterator.Adapters.{zip_first, zip_second}
+use Rattle.std.specs.Slice.Iter.{iter_rest}
+use Rattle.radix.proofs.Turns.{Packing}
 use Rattle.radix.proofs.pack.Given as goal
 
-abbrev pub invariant-loop-i : goal.invariant-loop-i
-invariant-loop-i l =
-    number_from l.number (drop l.i l.radices) (drop l.i l.digits) ≡ number_of l.radices l.digits
-
-abbrev pub decreases-loop-i : goal.decreases-loop-i
-decreases-loop-i l = length l.radices - l.i
+abbrev pub invariant-loop-radix : goal.invariant-loop-radix
+invariant-loop-radix l =
+    Packing l.radices l.digits l.number (iter_rest (zip_first l.radix-iterator)) (iter_rest (zip_second l.radix-iterator))

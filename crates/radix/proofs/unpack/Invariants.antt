@@ -1,13 +1,14 @@
--- `radix::unpack` meets its contract. The loop's invariant: the digits from i on are those of the number, and what is left is its
--- quotient by the radices from i on. The measure is i.
+-- `radix::unpack` meets its contract. The loop's invariant: the digits by the radices that are left, of what is left of the number, and
+-- those that are written behind make all its digits.
 -- Assumes nothing.
 
+use Rattle.std.proofs.Common.{◌≡◌}
+use Rattle.std.specs.Iterator.Adapters.{rev_source, enumerate_source, enumerate_count}
+use Rattle.std.specs.Slice.Iter.{iter_rest}
 use Rattle.radix.proofs.Turns.{Unpacking}
 use Rattle.radix.proofs.unpack.Given as goal
 
 abbrev pub invariant-loop-i : goal.invariant-loop-i
 invariant-loop-i l =
-    Unpacking l.number l.radices l.digits l.rest l.i
-
-abbrev pub decreases-loop-i : goal.decreases-loop-i
-decreases-loop-i l = l.i
+    (enumerate_count (rev_source l.i-iterator) ≡ 0)
+    × Unpacking l.radices l.number l.digits l.rest (iter_rest (enumerate_source (rev_source l.i-iterator)))

@@ -1,60 +1,53 @@
 -- `u4b::read` meets its contract: what isn't legal is refused as it was; of what is, each step is the definition's, and the rest follows
 -- from the definitions' laws.
 -- Assumes nothing.
-use mathlib.Core.Path.{◌≡◌, sym, ◌∙◌}
+use mathlib.Core.Path.{sym, ◌∙◌}
+use Prim.Native.Nat.{◌≤◌}
 use native.Mathlib.Omega.{arith}
-use Rattle.basics.proofs.ListLaws.{none_fails}
-use Rattle.message.specs.Character.{legal_at}
-use Rattle.message.specs.Answer.{message_checked}
-use Rattle.message.specs.declared.CheckAnswer.{CheckAnswer}
-use Rattle.message.proofs.AnswerLaws.{Legal, legal_of_checked}
-use Rattle.u4b.specs.Answer.{payload_of}
+use Rattle.std.proofs.lemmas.Result.{err_from_is_err_and}
+use Rattle.basics.proofs.SearchLaws.{some_below_found, some_below_none}
+use Rattle.message.proofs.AnswerLaws.{legal_of_message}
+use Rattle.u4b.specs.Alphabet.{first_not_taken}
+use Rattle.u4b.specs.Answer.{payload_of, payload_alphabet}
 use Rattle.u4b.proofs.CallsignLaws.{third_of, upper_digits_in}
 use Rattle.u4b.proofs.AnswerLaws.{read_illegal, read_not_taken, read_payload}
 use Rattle.u4b.proofs.RoundTripLaws.{read_promised}
 use Rattle.u4b.proofs.read.Goals as goal
 
-pub returns-in-Refused : goal.returns-in-Refused
-returns-in-Refused c =
+pub returns-in_err-message : goal.returns-in_err-message
+returns-in_err-message c =
     let a = c.args in
-    let promised = read_promised a.taken a.callsign.now a.locator.now a.power _
-    (read_illegal a.taken a.callsign.now a.locator.now a.power _ (sym c.check-checked.ensures.answer ∙ c.in-Refused.is)) in
-    record { answer = promised.0; numbers = promised.1.0; as_capitals = promised.1.1.0; writes_back = promised.1.1.1.0; refuses_exactly = promised.1.1.1.1 }
+    let passed = err_from_is_err_and c.from_residual.result c.from_residual.ensures.1 in
+    rw (passed.1, passed.2)
+    (read_promised a.taken a.callsign.now a.locator.now a.power _
+    (read_illegal a.taken a.callsign.now a.locator.now a.power _ c.in_err-message.ensures.answer))
 
-pub returns-then-place-lt6 : goal.returns-then-place-lt6
-returns-then-place-lt6 c =
+pub overflow_cast-result : goal.overflow_cast-result
+overflow_cast-result c = omega (arith, (some_below_found _ _ _ (sym c.first_not_taken.ensures ∙ c.in-Some.is)).1)
+
+pub returns-in-Some : goal.returns-in-Some
+returns-in-Some c =
     let a = c.args in
-    let promised = read_promised a.taken a.callsign.now a.locator.now a.power _
-    (read_not_taken a.taken a.callsign.now a.locator.now a.power (let its : let a = c.args in message_checked a.callsign.now a.locator.now a.power ≡ CheckAnswer.Legal = sym c.check-checked.ensures.answer ∙ c.in_default.is in its) _ (sym c.first_not_taken-place.ensures) c.if-place-lt6.true) in
-    record { answer = promised.0; numbers = promised.1.0; as_capitals = promised.1.1.0; writes_back = promised.1.1.1.0; refuses_exactly = promised.1.1.1.1 }
-
-pub bounds-callsign-0 : goal.bounds-callsign-0
-bounds-callsign-0 c =
-    let l = (let its : let a = c.args in Legal a.callsign.now a.locator.now a.power = let a = c.args in legal_of_checked a.callsign.now a.locator.now a.power (let its : let a = c.args in message_checked a.callsign.now a.locator.now a.power ≡ CheckAnswer.Legal = sym c.check-checked.ensures.answer ∙ c.in_default.is in its) in its) in
-    omega (arith, l.six)
-
-pub bounds-callsign-2 : goal.bounds-callsign-2
-bounds-callsign-2 c =
-    let l = (let its : let a = c.args in Legal a.callsign.now a.locator.now a.power = let a = c.args in legal_of_checked a.callsign.now a.locator.now a.power (let its : let a = c.args in message_checked a.callsign.now a.locator.now a.power ≡ CheckAnswer.Legal = sym c.check-checked.ensures.answer ∙ c.in_default.is in its) in its) in
-    omega (arith, l.six)
+    let parts = c.in_ok-message.ensures.parts in
+    let place = some_below_found _ _ _ (sym c.first_not_taken.ensures ∙ c.in-Some.is) in
+    read_promised a.taken a.callsign.now a.locator.now a.power _
+    (read_not_taken a.taken a.callsign.now a.locator.now a.power c.in_ok-message.ensures.answer _ (rw (← parts.0) place.0) (omega arith))
 
 pub upper_of-requires : goal.upper_of-requires
 upper_of-requires c =
-    let a = c.args in
-    let l = (let its : let a = c.args in Legal a.callsign.now a.locator.now a.power = let a = c.args in legal_of_checked a.callsign.now a.locator.now a.power (let its : let a = c.args in message_checked a.callsign.now a.locator.now a.power ≡ CheckAnswer.Legal = sym c.check-checked.ensures.answer ∙ c.in_default.is in its) in its) in
-    record { callsign_len = l.six; digits = upper_digits_in a.callsign.now l.six a.taken l.callsign_legal (omega (arith, c.first_not_taken-place.ensures)) }
-
-pub lower_of-requires : goal.lower_of-requires
-lower_of-requires c =
-    let l = (let its : let a = c.args in Legal a.callsign.now a.locator.now a.power = let a = c.args in legal_of_checked a.callsign.now a.locator.now a.power (let its : let a = c.args in message_checked a.callsign.now a.locator.now a.power ≡ CheckAnswer.Legal = sym c.check-checked.ensures.answer ∙ c.in_default.is in its) in its) in
-    record { locator_len = l.four; locator_value = omega (arith, l.four, none_fails legal_at 6 _ l.locator_legal); power_value = l.power_legal }
+    let l = legal_of_message c.in_ok-message.message (omega arith) (omega arith) in
+    let taken = some_below_none _ _ (sym c.first_not_taken.ensures ∙ c.in_default.is) in
+    upper_digits_in _ l.six c.args.taken l.callsign_legal (omega (arith, taken))
 
 pub returns : goal.returns
 unfolding payload_of
 returns c =
     let a = c.args in
-    let l = (let its : let a = c.args in Legal a.callsign.now a.locator.now a.power = let a = c.args in legal_of_checked a.callsign.now a.locator.now a.power (let its : let a = c.args in message_checked a.callsign.now a.locator.now a.power ≡ CheckAnswer.Legal = sym c.check-checked.ensures.answer ∙ c.in_default.is in its) in its) in
-    let third = (third_of a.callsign.now l.six l.callsign_legal).0 in
-    let promised = (read_promised a.taken a.callsign.now a.locator.now a.power _
-    (read_payload a.taken a.callsign.now a.locator.now a.power (let its : let a = c.args in message_checked a.callsign.now a.locator.now a.power ≡ CheckAnswer.Legal = sym c.check-checked.ensures.answer ∙ c.in_default.is in its) (omega (arith, c.first_not_taken-place.ensures)))) in
-    rw (c.capital_of.ensures, ← third, c.upper_of.ensures, c.lower_of.ensures) (record { answer = promised.0; numbers = promised.1.0; as_capitals = promised.1.1.0; writes_back = promised.1.1.1.0; refuses_exactly = promised.1.1.1.1 })
+    let m = c.in_ok-message.message in
+    let l = legal_of_message m (omega arith) (omega arith) in
+    let parts = c.in_ok-message.ensures.parts in
+    let third = (third_of m.callsign l.six l.callsign_legal).0 in
+    let taken : 6 ≤ first_not_taken (payload_alphabet a.taken) m.callsign =
+    omega (arith, some_below_none _ _ (sym c.first_not_taken.ensures ∙ c.in_default.is)) in
+    rw (c.capital_of.ensures, ← third, c.upper_of.ensures, c.lower_of.ensures, parts.0, parts.1, parts.2)
+    (read_promised a.taken a.callsign.now a.locator.now a.power _ (read_payload a.taken a.callsign.now a.locator.now a.power c.in_ok-message.ensures.answer (rw (← parts.0) taken)))

@@ -6,4 +6,4 @@ use Rattle.wsjtx_vectors.proofs.print_vector.Goals as goal
 
 pub print_answers-requires : goal.print_answers-requires
 print_answers-requires g c =
-    symbols_of_vector c.args.line.now (sym c.read.ensures ∙ c.in-PowerAndWord.is)
+    symbols_of_vector c.args.line.now _ (sym c.read.ensures ∙ c.in-Some.is)

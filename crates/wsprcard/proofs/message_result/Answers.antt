@@ -1,15 +1,8 @@
--- `wsprcard::message_result` meets its contract, case by case.
+-- `wsprcard::message_result` meets its contract: the refusal in the answer, and what stands beside it.
 -- Assumes nothing.
-use mathlib.Core.Path.{sym, ap}
-use Rattle.message.specs.Answer.{message_numbers}
-use Rattle.message.specs.declared.MessageAnswer.{MessageAnswer}
-use Rattle.wsprcard.specs.Results.{message_result}
+use Rattle.wsprcard.proofs.ResultLaws.{message_of}
 use Rattle.wsprcard.proofs.message_result.Goals as goal
 
-pub returns-in-Power : goal.returns-in-Power
-unfolding message_result message_numbers
-returns-in-Power c = sym (ap (λ (a : MessageAnswer). message_result (message_numbers a)) c.in-Power.is)
-
-pub returns-in-Refused : goal.returns-in-Refused
-unfolding message_result message_numbers
-returns-in-Refused c = sym (ap (λ (a : MessageAnswer). message_result (message_numbers a)) c.in-Refused.is)
+pub returns : goal.returns
+returns c =
+    message_of c.args.answer (rw c.err.ensures.value at c.refused-refusal.ensures) c.unwrap_or.ensures

@@ -1,15 +1,10 @@
--- `wsprcard::repaired_result` meets its contract, case by case.
+-- `wsprcard::repaired_result` meets its contract: the refusal in the answer, and what stands beside it.
 -- Assumes nothing.
-use mathlib.Core.Path.{sym, ap}
-use Rattle.repair.specs.Answer.{no_nearest, repair_numbers}
-use Rattle.repair.specs.declared.RepairAnswer.{RepairAnswer}
-use Rattle.wsprcard.specs.Results.{repaired_result}
+use Rattle.repair.specs.Answer.{no_nearest}
+use Rattle.wsprcard.proofs.ResultLaws.{repaired_of}
 use Rattle.wsprcard.proofs.repaired_result.Goals as goal
 
-pub returns-in-Word : goal.returns-in-Word
-unfolding repaired_result repair_numbers
-returns-in-Word c = sym (ap (λ (a : RepairAnswer). repaired_result (repair_numbers a)) c.in-Word.is)
-
-pub returns-in-Refused : goal.returns-in-Refused
-unfolding repaired_result repair_numbers no_nearest
-returns-in-Refused c = sym (ap (λ (a : RepairAnswer). repaired_result (repair_numbers a)) c.in-Refused.is)
+pub returns : goal.returns
+unfolding no_nearest
+returns c =
+    repaired_of c.args.answer (rw c.err.ensures.value at c.refused-refusal.ensures) c.unwrap_or.ensures

@@ -1,14 +1,11 @@
 -- `wsprcard::u4b_read` meets its contract: the layer's answer, in its struct.
 -- Assumes nothing.
-use Rattle.telemetry.proofs.AnswerLaws.{read_answered}
 use Rattle.wsprcard.proofs.ResultLaws.{telemetry_in_result, told}
 use Rattle.wsprcard.proofs.u4b_read.Goals as goal
 
 pub returns : goal.returns
 returns c =
-    let a = c.args in
-    let answered = read_answered a.callsign.now a.locator.now a.power in
-    let (result, same) = told (telemetry_in_result _ answered) c.reading_result.ensures c.read.ensures.answer in
+    let (result, same) = told (telemetry_in_result _) c.reading_result.ensures c.read.ensures.answer in
     record {
       answer = result;
       as_capitals = rw c.read.ensures.as_capitals at c.reading_result.ensures;

@@ -1,15 +1,13 @@
 -- `wsprcard::u4b_write` meets its contract: the layer's answer, in its struct. A signed argument is read back from its bits as it was.
 -- Assumes nothing.
 use mir.Facts.{to_z-of_z}
-use Rattle.telemetry.proofs.AnswerLaws.{written_answered}
 use Rattle.wsprcard.proofs.ResultLaws.{message_in_result, told}
 use Rattle.wsprcard.proofs.u4b_write.Goals as goal
 
 pub returns : goal.returns
 returns c =
     let promised = rw (to_z-of_z c.ranges.temperature) at c.write.ensures in
-    let answered = written_answered c.args.callsign.now c.args.locator.now _ in
-    let (result, same) = told (message_in_result _ answered) c.message_result.ensures promised.answer in
+    let (result, same) = told (message_in_result _) c.message_result.ensures promised.answer in
     record {
       answer = result;
       callsign_after = promised.callsign_after;

@@ -1,15 +1,8 @@
--- `wsprcard::word_result` meets its contract, case by case.
+-- `wsprcard::word_result` meets its contract: the refusal in the answer, and what stands beside it.
 -- Assumes nothing.
-use mathlib.Core.Path.{sym, ap}
-use Rattle.message.specs.Answer.{word_numbers}
-use Rattle.message.specs.declared.WordAnswer.{WordAnswer}
-use Rattle.wsprcard.specs.Results.{word_result}
+use Rattle.wsprcard.proofs.ResultLaws.{word_of}
 use Rattle.wsprcard.proofs.word_result.Goals as goal
 
-pub returns-in-Word : goal.returns-in-Word
-unfolding word_result word_numbers
-returns-in-Word c = sym (ap (λ (a : WordAnswer). word_result (word_numbers a)) c.in-Word.is)
-
-pub returns-in-Refused : goal.returns-in-Refused
-unfolding word_result word_numbers
-returns-in-Refused c = sym (ap (λ (a : WordAnswer). word_result (word_numbers a)) c.in-Refused.is)
+pub returns : goal.returns
+returns c =
+    word_of c.args.answer (rw c.err.ensures.value at c.refused-refusal.ensures) c.unwrap_or.ensures

@@ -1,14 +1,11 @@
 -- `wsprcard::wspr_read_message` meets its contract: the layer's answer, in its struct.
 -- Assumes nothing.
-use Rattle.frame.proofs.AnswerLaws.{message_read_answered}
 use Rattle.wsprcard.proofs.ResultLaws.{message_in_result, told}
 use Rattle.wsprcard.proofs.wspr_read_message.Goals as goal
 
 pub returns : goal.returns
 returns c =
-    let a = c.args in
-    let answered = message_read_answered a.frame.now a.callsign.now a.locator.now in
-    let (result, same) = told (message_in_result _ answered) c.message_result.ensures c.read_message.ensures.answer in
+    let (result, same) = told (message_in_result _) c.message_result.ensures c.read_message.ensures.answer in
     record {
       answer = result;
       callsign_after = c.read_message.ensures.callsign_after;

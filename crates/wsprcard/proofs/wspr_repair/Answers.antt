@@ -1,14 +1,11 @@
 -- `wsprcard::wspr_repair` meets its contract: the layer's answer, in its struct.
 -- Assumes nothing.
-use Rattle.repair.proofs.CheckLaws.{refusal_number}
 use Rattle.wsprcard.proofs.ResultLaws.{repair_in_result, told}
 use Rattle.wsprcard.proofs.wspr_repair.Goals as goal
 
 pub returns : goal.returns
 returns c =
-    let a = c.args in
-    let numbered = refusal_number a.frame.now a.limit a.budget in
-    let (result, same) = told (repair_in_result _ numbered) c.repaired_result.ensures c.repair.ensures.answer in
+    let (result, same) = told (repair_in_result _) c.repaired_result.ensures c.repair.ensures.answer in
     record {
       answer = result;
       checked = rw same at c.repair.ensures.checked;

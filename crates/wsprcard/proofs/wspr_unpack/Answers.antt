@@ -1,14 +1,11 @@
 -- `wsprcard::wspr_unpack` meets its contract: the layer's answer, in its struct.
 -- Assumes nothing.
-use Rattle.message.proofs.AnswerLaws.{unpacked_answered}
 use Rattle.wsprcard.proofs.ResultLaws.{message_in_result, told}
 use Rattle.wsprcard.proofs.wspr_unpack.Goals as goal
 
 pub returns : goal.returns
 returns c =
-    let a = c.args in
-    let answered = unpacked_answered a.callsign.now a.locator.now a.word in
-    let (result, same) = told (message_in_result _ answered) c.message_result.ensures c.unpack.ensures.answer in
+    let (result, same) = told (message_in_result _) c.message_result.ensures c.unpack.ensures.answer in
     record {
       answer = result;
       callsign_after = c.unpack.ensures.callsign_after;

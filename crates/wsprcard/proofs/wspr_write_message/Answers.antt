@@ -1,14 +1,11 @@
 -- `wsprcard::wspr_write_message` meets its contract: the layer's answer, in its struct.
 -- Assumes nothing.
-use Rattle.frame.proofs.AnswerLaws.{message_answered}
 use Rattle.wsprcard.proofs.ResultLaws.{write_in_result, told}
 use Rattle.wsprcard.proofs.wspr_write_message.Goals as goal
 
 pub returns : goal.returns
 returns c =
-    let a = c.args in
-    let answered = message_answered a.callsign.now a.locator.now a.power a.frame.now in
-    let (result, same) = told (write_in_result _ answered) c.written_result.ensures c.write_message.ensures.answer in
+    let (result, same) = told (write_in_result _) c.written_result.ensures c.write_message.ensures.answer in
     record {
       answer = result;
       frame_after = c.write_message.ensures.frame_after;

@@ -1,25 +1,16 @@
 -- `frame::symbols::first_large` meets its contract: it looks for the first place whose symbol is above 3.
--- The measure is what is left of the frame.
 -- Assumes nothing.
-use native.Mathlib.Omega.{arith}
-use lib.ListN.{get_or}
-use borrow.Author.Tests.{le-leb, lt-leb}
-use Rattle.basics.proofs.ListLaws.{search_found, search_next, search_none}
+use Rattle.std.proofs.Common.{◌∙◌, refl, ltb, rules, arith, tests}
+use Rattle.std.proofs.lemmas.Bool.Decides.{nat_tests}
+use Rattle.std.proofs.lemmas.Iterator.{YieldsList-from_slice}
+use Rattle.std.proofs.lemmas.Iterator.Search.{position_from_yields_List}
+use Rattle.basics.proofs.SearchLaws.{position_first_failing}
 use Rattle.frame.specs.Answer.{is_symbol, first_large}
 use Rattle.frame.proofs.symbols.first_large.Goals as goal
-
-pub returns-then-frame-place-gt3 : goal.returns-then-frame-place-gt3
-unfolding first_large
-returns-then-frame-place-gt3 c =
-    let frame = c.args.frame.now in
-    search_found is_symbol frame c.loop-place.place c.loop-place.invariant 0 (omega arith) (lt-leb (get_or frame c.loop-place.place 0) 3 (omega arith))
-
-pub loop-place-preserved : goal.loop-place-preserved
-loop-place-preserved c =
-    let frame = c.args.frame.now in
-    search_next is_symbol frame c.loop-place.place c.loop-place.invariant 0 (omega arith) (le-leb (get_or frame c.loop-place.place 0) 3 (omega arith))
 
 pub returns : goal.returns
 unfolding first_large
 returns c =
-    search_none is_symbol c.args.frame.now c.loop-place.place c.loop-place.invariant (omega arith)
+    let frame = c.args.frame.now in
+    position_from_yields_List (ltb 3) _ _ _ c.position.ensures.ran (YieldsList-from_slice frame cc) (λ x b q k. search (rules, tests))
+    ∙ position_first_failing is_symbol (ltb 3) 0 0 frame frame refl (λ i h. grind (arith, nat_tests))

@@ -1,29 +1,16 @@
 -- `frame::symbols::first_wrong_sync` meets its contract: it looks for the first place whose sync bit is wrong.
--- The measure is what is left of the frame.
 -- Assumes nothing.
-use mathlib.Core.Path.{sym, ◌∙◌}
-use native.Mathlib.Omega.{arith}
-use borrow.Author.Tests.{eq-eqb, ne_eqb}
-use Rattle.basics.proofs.ListLaws.{search_found, search_next, search_none}
-use Rattle.frame.specs.Symbols.{synced}
-use Rattle.frame.specs.Answer.{first_wrong_sync}
-use Rattle.frame.proofs.SymbolLaws.{sync_read}
+use Rattle.std.proofs.Common.{◌∙◌, rules, tests}
+use Rattle.std.proofs.lemmas.Iterator.{YieldsList-from_slice, YieldsList-from_zip}
+use Rattle.std.proofs.lemmas.Iterator.Consumers.{YieldsList-at}
+use Rattle.std.proofs.lemmas.Iterator.Search.{position_from_yields_List}
+use Rattle.frame.specs.Symbols.{sync_vector}
+use Rattle.frame.proofs.SymbolLaws.{is_unsynced, unsynced_first}
 use Rattle.frame.proofs.symbols.first_wrong_sync.Goals as goal
 
-pub returns-then-frame-place : goal.returns-then-frame-place
-unfolding first_wrong_sync
-returns-then-frame-place c =
-    let frame = c.args.frame.now in
-    let wrong = ne_eqb _ _ (λ e. c.if-frame-place.true (e ∙ sym (sync_read c.loop-place.place c.sync_vector-sync.ensures))) in
-    search_found synced frame c.loop-place.place c.loop-place.invariant 0 (omega arith) wrong
-
-pub loop-place-preserved : goal.loop-place-preserved
-loop-place-preserved c =
-    let frame = c.args.frame.now in
-    let right = eq-eqb _ _ (c.if-frame-place.false ∙ sync_read c.loop-place.place c.sync_vector-sync.ensures) in
-    search_next synced frame c.loop-place.place c.loop-place.invariant 0 (omega arith) right
-
 pub returns : goal.returns
-unfolding first_wrong_sync
 returns c =
-    search_none synced c.args.frame.now c.loop-place.place c.loop-place.invariant (omega arith)
+    let frame = c.args.frame.now in
+    let pairs = YieldsList-from_zip {s = c.zip.result} (YieldsList-at c.zip.ensures.first (YieldsList-from_slice frame c.iter.ensures.rest)) (YieldsList-from_slice sync_vector cc) in
+    position_from_yields_List is_unsynced c.position.new.self _ c.position.result c.position.ensures.ran pairs (λ x b q k. search (rules, tests))
+    ∙ unsynced_first frame c.requires

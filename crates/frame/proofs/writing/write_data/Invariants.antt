@@ -1,8 +1,7 @@
 -- `frame::writing::write_data` meets its contract: each turn puts the two coded bits of a step at their places.
--- The measure is the number of steps left.
 -- Assumes nothing.
 
-use Prim.Native.Nat.{ℕ, ◌-◌, ◌*◌}
+use Prim.Native.Nat.{ℕ, ◌*◌}
 use lib.ListN.{get_or}
 use Rattle.convolution.specs.Code.{coded_bits}
 use Rattle.convolution.proofs.Coding.{Coding}
@@ -14,6 +13,3 @@ coded word index = get_or (coded_bits word) index 0
 
 abbrev pub invariant-loop-step : goal.invariant-loop-step
 invariant-loop-step l = Placing l.places (coded l.word) l.frame (2 * l.step) × Coding l.word l.register l.step
-
-abbrev pub decreases-loop-step : goal.decreases-loop-step
-decreases-loop-step l = 81 - l.step

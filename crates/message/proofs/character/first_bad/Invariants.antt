@@ -1,15 +1,11 @@
 -- `message::character::first_bad` meets its contract. The loop's invariant: the first bad place from i on is that of all the bytes.
--- The measure is what is left of the length.
 -- Assumes nothing.
 
 use mathlib.Core.Path.{◌≡◌}
-use Prim.Native.Nat.{◌+◌, ◌-◌, ◌≤◌}
-use lib.ListN.{length, drop}
+use Prim.Native.Nat.{◌+◌}
+use lib.ListN.{drop}
 use Rattle.message.specs.Character.{first_bad}
 use Rattle.message.proofs.character.first_bad.Given as goal
 
 abbrev pub invariant-loop-i : goal.invariant-loop-i
-invariant-loop-i l = (l.i ≤ length l.bytes) × (first_bad (l.start + l.i) (drop l.i l.bytes) ≡ first_bad l.start l.bytes)
-
-abbrev pub decreases-loop-i : goal.decreases-loop-i
-decreases-loop-i l = length l.bytes - l.i
+invariant-loop-i l = first_bad (l.start + l.i) (drop l.i l.bytes) ≡ first_bad l.start l.bytes

@@ -14,4 +14,4 @@ returns c =
     let lower = a.locator * 128 + a.power + 64 in
     let room : lower < 2 ^ 22 = omega arith in
     let whole : a.callsign * 2 ^ 22 % 2 ^ 64 ≡ a.callsign * 2 ^ 22 = omega arith in
-    ap (λ (n : ℕ). bit_or n lower) whole ∙ or_shifted a.callsign 22 lower room
+    rw c.from.ensures (ap (λ (n : ℕ). bit_or n lower) whole ∙ or_shifted a.callsign 22 lower room)

@@ -25,17 +25,23 @@ branch_cost-requires c = cost_most c.loop-branch.invariant.0
 
 pub overflow_add-longer : goal.overflow_add-longer
 overflow_add-longer c =
-    omega (arith, (let its : c.branch_cost.result ≤ 2 = rw c.branch_cost.ensures (branch_cost_most _ _ (cost_most c.loop-branch.invariant.0)) in its), c.loop-branch.invariant.0.near, c.requires.limit_bound)
+    let now = c.loop-branch.invariant.0 in
+    let cost : c.branch_cost.result ≤ 2 = rw c.branch_cost.ensures (branch_cost_most _ _ (cost_most now)) in
+    omega (arith, cost, now.near, c.requires.limit_bound)
 
 pub child-number-requires : goal.child-number-requires
 child-number-requires c =
-    record { number_bound = number_in c.loop-branch.invariant.0; branch_bound = omega (arith, (let its : c.loop-branch.branch < branches_of c.loop-branch.depth = rw c.branches.ensures at c.loop-branch-test.true in its), branches_most c.loop-branch.depth) }
+    let few : c.loop-branch.branch < branches_of c.loop-branch.depth = rw c.branches.ensures at c.loop-branch-test.true in
+    record { number_bound = number_in c.loop-branch.invariant.0; branch_bound = omega (arith, few, branches_most c.loop-branch.depth) }
 
 pub depths-preserved-then-depth-lt80 : goal.depths-preserved-then-depth-lt80
 depths-preserved-then-depth-lt80 c =
+    let few : c.loop-branch.branch < branches_of c.loop-branch.depth = rw c.branches.ensures at c.loop-branch-test.true in
+    let longer : c.loop-branch.disagreements + c.branch_cost.result ≡ c.loop-branch.disagreements + branch_cost (get_or c.loop-branch.costs c.loop-branch.depth 0) c.loop-branch.branch =
+    ap (λ (n : ℕ). c.loop-branch.disagreements + n) c.branch_cost.ensures in
     let is-child = c.child-number.ensures in
     rw is-child
-    (walk_down c.loop-branch.invariant.0 (let its : c.loop-branch.branch < branches_of c.loop-branch.depth = rw c.branches.ensures at c.loop-branch-test.true in its) _ (let its : c.loop-branch.disagreements + c.branch_cost.result ≡ c.loop-branch.disagreements + branch_cost (get_or c.loop-branch.costs c.loop-branch.depth 0) c.loop-branch.branch = ap (λ (n : ℕ). c.loop-branch.disagreements + n) c.branch_cost.ensures in its) c.zero_cost.result
+    (walk_down c.loop-branch.invariant.0 few _ longer c.zero_cost.result
     (omega (arith, c.if-longer-limit.true)) (omega (arith, c.if-budget-live.false))
     (omega (arith, c.if-depth-lt80.true)) (rw is-child at c.zero_cost.ensures))
 
@@ -72,29 +78,47 @@ loop-branch-preserved c =
 
 pub branch_cost-disagreements-requires : goal.branch_cost-disagreements-requires
 branch_cost-disagreements-requires c =
-    up_most c.loop-branch.invariant.0 (c.loop-branch.depth - 1) (let its : c.loop-branch.depth ≡ c.loop-branch.depth - 1 + 1 = omega (arith, c.if-depth-eq0.false) in its) (let its : branches_of c.loop-branch.depth ≤ c.loop-branch.branch = rw c.branches.ensures at c.loop-branch-test.false in its)
+    let d = c.loop-branch.depth - 1 in
+    let above : c.loop-branch.depth ≡ d + 1 = omega (arith, c.if-depth-eq0.false) in
+    let done : branches_of c.loop-branch.depth ≤ c.loop-branch.branch = rw c.branches.ensures at c.loop-branch-test.false in
+    up_most c.loop-branch.invariant.0 d above done
 
 pub overflow_sub-disagreements : goal.overflow_sub-disagreements
 overflow_sub-disagreements c =
+    let d = c.loop-branch.depth - 1 in
+    let above : c.loop-branch.depth ≡ d + 1 = omega (arith, c.if-depth-eq0.false) in
+    let done : branches_of c.loop-branch.depth ≤ c.loop-branch.branch = rw c.branches.ensures at c.loop-branch-test.false in
     rw (c.branch_cost-disagreements.ensures, c.last_branch-branch.ensures)
-    (omega (arith, up_distance c.loop-branch.invariant.0 (c.loop-branch.depth - 1) (let its : c.loop-branch.depth ≡ c.loop-branch.depth - 1 + 1 = omega (arith, c.if-depth-eq0.false) in its) (let its : branches_of c.loop-branch.depth ≤ c.loop-branch.branch = rw c.branches.ensures at c.loop-branch-test.false in its)))
+    (omega (arith, up_distance c.loop-branch.invariant.0 d above done))
 
 pub overflow_add-branch-in-depths : goal.overflow_add-branch-in-depths
-overflow_add-branch-in-depths c = omega (arith, (let its : c.last_branch-branch.result < 2 = omega (arith, c.last_branch-branch.ensures, last_branch_below (c.loop-branch.depth - 1) c.loop-branch.number, branches_most (c.loop-branch.depth - 1)) in its))
+overflow_add-branch-in-depths c =
+    let last : c.last_branch-branch.result < 2 =
+    omega (arith, c.last_branch-branch.ensures, last_branch_below (c.loop-branch.depth - 1) c.loop-branch.number, branches_most (c.loop-branch.depth - 1)) in
+    omega (arith, last)
 
 pub depths-preserved : goal.depths-preserved
 depths-preserved c =
+    let d = c.loop-branch.depth - 1 in
+    let above : c.loop-branch.depth ≡ d + 1 = omega (arith, c.if-depth-eq0.false) in
+    let done : branches_of c.loop-branch.depth ≤ c.loop-branch.branch = rw c.branches.ensures at c.loop-branch-test.false in
     rw (c.parent-number.ensures, c.branch_cost-disagreements.ensures, c.last_branch-branch.ensures)
-    (walk_up c.loop-branch.invariant.0 (c.loop-branch.depth - 1) (let its : c.loop-branch.depth ≡ c.loop-branch.depth - 1 + 1 = omega (arith, c.if-depth-eq0.false) in its) (let its : branches_of c.loop-branch.depth ≤ c.loop-branch.branch = rw c.branches.ensures at c.loop-branch-test.false in its))
+    (walk_up c.loop-branch.invariant.0 d above done)
 
 pub returns-then-budget-live : goal.returns-then-budget-live
 returns-then-budget-live c =
+    let now = c.loop-branch.invariant.0 in
+    let few : c.loop-branch.branch < branches_of c.loop-branch.depth = rw c.branches.ensures at c.loop-branch-test.true in
+    let longer : c.loop-branch.disagreements + c.branch_cost.result ≡ c.loop-branch.disagreements + branch_cost (get_or c.loop-branch.costs c.loop-branch.depth 0) c.loop-branch.branch =
+    ap (λ (n : ℕ). c.loop-branch.disagreements + n) c.branch_cost.ensures in
     record {
-      stops = omega (arith, c.loop-branch.invariant.0.live_within);
-      when_over_budget = λ over. walk_over c.loop-branch.invariant.0 (let its : c.loop-branch.branch < branches_of c.loop-branch.depth = rw c.branches.ensures at c.loop-branch-test.true in its) _ (let its : c.loop-branch.disagreements + c.branch_cost.result ≡ c.loop-branch.disagreements + branch_cost (get_or c.loop-branch.costs c.loop-branch.depth 0) c.loop-branch.branch = ap (λ (n : ℕ). c.loop-branch.disagreements + n) c.branch_cost.ensures in its) (omega (arith, c.if-longer-limit.true)) (omega (arith, c.if-budget-live.true));
+      stops = omega (arith, now.live_within);
+      when_over_budget = λ over. walk_over now few _ longer (omega (arith, c.if-longer-limit.true)) (omega (arith, c.if-budget-live.true));
       counted = λ within. absurd (omega (arith, c.if-budget-live.true));
       best_of_all = λ within. absurd (omega (arith, c.if-budget-live.true));
     }
 
 pub returns-then-depth-eq0 : goal.returns-then-depth-eq0
-returns-then-depth-eq0 c = walk_ends c.loop-branch.invariant.0 (omega (arith, c.if-depth-eq0.true)) (let its : branches_of c.loop-branch.depth ≤ c.loop-branch.branch = rw c.branches.ensures at c.loop-branch-test.false in its)
+returns-then-depth-eq0 c =
+    let done : branches_of c.loop-branch.depth ≤ c.loop-branch.branch = rw c.branches.ensures at c.loop-branch-test.false in
+    walk_ends c.loop-branch.invariant.0 (omega (arith, c.if-depth-eq0.true)) done

@@ -2,7 +2,7 @@
 -- Assumes nothing.
 use mathlib.Core.Path.{sym, ap, ◌∙◌}
 use native.Mathlib.Omega.{arith}
-use Rattle.telemetry.specs.declared.TelemetryAnswer.{TelemetryAnswer}
+use Rattle.std.specs.Prelude.{Ok}
 use Rattle.telemetry.proofs.AnswerLaws.{payload_position, payload_sensors, payload_reading}
 use Rattle.telemetry.proofs.codes.read_payload.Goals as goal
 
@@ -15,5 +15,5 @@ returns-then-payload-ge-SENSOR_COUNT c =
 
 pub returns : goal.returns
 returns c =
-    ap TelemetryAnswer.Telemetry c.reading_of.ensures
+    ap Ok c.reading_of.ensures
     ∙ sym (payload_reading c.args.payload (omega (arith, c.if-payload-ge-POSITION_COUNT.false)) (omega (arith, c.if-payload-ge-SENSOR_COUNT.false)))

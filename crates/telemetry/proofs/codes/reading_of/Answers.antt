@@ -31,6 +31,18 @@ record SensorDigits (s : List ℕ) : Type 0 where
   pub speed : get_or s 2 0 < 42
   pub gps : get_or s 3 0 < 2
 
+position_digits : (n : ℕ) (p : List ℕ) → p ≡ digits_of position_radices n → PositionDigits p
+unfolding Digits digits_of position_radices
+position_digits n p e =
+    let d = digits_in_range position_radices n position_positive in
+    rw e (record { grid5 = d.0; grid6 = d.1.0; altitude = d.1.1.0 })
+
+sensor_digits : (n : ℕ) (s : List ℕ) → s ≡ digits_of sensor_radices n → SensorDigits s
+unfolding Digits digits_of sensor_radices
+sensor_digits n s e =
+    let d = digits_in_range sensor_radices n sensor_positive in
+    rw e (record { temperature = d.0; voltage = d.1.0; speed = d.1.1.0; gps = d.1.1.1.0 })
+
 -- The readings of digits, with those of temperature and voltage as they were called for.
 made : (payload : Payload) {p s : List ℕ} {t : ℤ} {v : ℕ} → t ≡ degrees (get_or s 0 0) → v ≡ millivolts (get_or s 1 0)
     → p ≡ digits_of position_radices payload.upper → s ≡ digits_of sensor_radices payload.lower
@@ -53,52 +65,52 @@ unpack-requires-2 c =
     record { positive = sensor_positive; digits_len = refl }
 
 pub overflow_cast-result : goal.overflow_cast-result
-unfolding Digits digits_of position_radices
-overflow_cast-result c = record { fits = omega (arith, (let its : PositionDigits c.unpack.new.digits = let d = digits_in_range position_radices c.args.payload.upper position_positive in rw c.unpack.ensures.written (record { grid5 = d.0; grid6 = d.1.0; altitude = d.1.1.0 }) in its).grid5) }
+unfolding position_radices
+overflow_cast-result c = record { fits = omega (arith, (position_digits _ _ c.unpack.ensures.written).grid5) }
 
 pub overflow_add-result : goal.overflow_add-result
-unfolding Digits digits_of position_radices
-overflow_add-result c = record { fits = omega (arith, (let its : PositionDigits c.unpack.new.digits = let d = digits_in_range position_radices c.args.payload.upper position_positive in rw c.unpack.ensures.written (record { grid5 = d.0; grid6 = d.1.0; altitude = d.1.1.0 }) in its).grid5) }
+unfolding position_radices
+overflow_add-result c = record { fits = omega (arith, (position_digits _ _ c.unpack.ensures.written).grid5) }
 
 pub overflow_cast-result-2 : goal.overflow_cast-result-2
-unfolding Digits digits_of position_radices
-overflow_cast-result-2 c = record { fits = omega (arith, (let its : PositionDigits c.unpack.new.digits = let d = digits_in_range position_radices c.args.payload.upper position_positive in rw c.unpack.ensures.written (record { grid5 = d.0; grid6 = d.1.0; altitude = d.1.1.0 }) in its).grid6) }
+unfolding position_radices
+overflow_cast-result-2 c = record { fits = omega (arith, (position_digits _ _ c.unpack.ensures.written).grid6) }
 
 pub overflow_add-result-2 : goal.overflow_add-result-2
-unfolding Digits digits_of position_radices
-overflow_add-result-2 c = record { fits = omega (arith, (let its : PositionDigits c.unpack.new.digits = let d = digits_in_range position_radices c.args.payload.upper position_positive in rw c.unpack.ensures.written (record { grid5 = d.0; grid6 = d.1.0; altitude = d.1.1.0 }) in its).grid6) }
+unfolding position_radices
+overflow_add-result-2 c = record { fits = omega (arith, (position_digits _ _ c.unpack.ensures.written).grid6) }
 
 pub overflow_mul-result : goal.overflow_mul-result
-unfolding Digits digits_of position_radices
-overflow_mul-result c = record { fits = omega (arith, (let its : PositionDigits c.unpack.new.digits = let d = digits_in_range position_radices c.args.payload.upper position_positive in rw c.unpack.ensures.written (record { grid5 = d.0; grid6 = d.1.0; altitude = d.1.1.0 }) in its).altitude) }
+unfolding position_radices
+overflow_mul-result c = record { fits = omega (arith, (position_digits _ _ c.unpack.ensures.written).altitude) }
 
 pub overflow_cast-result-3 : goal.overflow_cast-result-3
-unfolding Digits digits_of position_radices
-overflow_cast-result-3 c = record { fits = omega (arith, (let its : PositionDigits c.unpack.new.digits = let d = digits_in_range position_radices c.args.payload.upper position_positive in rw c.unpack.ensures.written (record { grid5 = d.0; grid6 = d.1.0; altitude = d.1.1.0 }) in its).altitude) }
+unfolding position_radices
+overflow_cast-result-3 c = record { fits = omega (arith, (position_digits _ _ c.unpack.ensures.written).altitude) }
 
 pub degrees_of-requires : goal.degrees_of-requires
-unfolding Digits digits_of sensor_radices
-degrees_of-requires c = omega (arith, (let its : SensorDigits c.unpack-2.new.digits = let d = digits_in_range sensor_radices c.args.payload.lower sensor_positive in rw c.unpack-2.ensures.written (record { temperature = d.0; voltage = d.1.0; speed = d.1.1.0; gps = d.1.1.1.0 }) in its).temperature)
+unfolding sensor_radices
+degrees_of-requires c = omega (arith, (sensor_digits _ _ c.unpack-2.ensures.written).temperature)
 
 pub millivolts_of-requires : goal.millivolts_of-requires
-unfolding Digits digits_of sensor_radices
-millivolts_of-requires c = omega (arith, (let its : SensorDigits c.unpack-2.new.digits = let d = digits_in_range sensor_radices c.args.payload.lower sensor_positive in rw c.unpack-2.ensures.written (record { temperature = d.0; voltage = d.1.0; speed = d.1.1.0; gps = d.1.1.1.0 }) in its).voltage)
+unfolding sensor_radices
+millivolts_of-requires c = omega (arith, (sensor_digits _ _ c.unpack-2.ensures.written).voltage)
 
 pub overflow_mul-result-2 : goal.overflow_mul-result-2
-unfolding Digits digits_of sensor_radices
-overflow_mul-result-2 c = record { fits = omega (arith, (let its : SensorDigits c.unpack-2.new.digits = let d = digits_in_range sensor_radices c.args.payload.lower sensor_positive in rw c.unpack-2.ensures.written (record { temperature = d.0; voltage = d.1.0; speed = d.1.1.0; gps = d.1.1.1.0 }) in its).speed) }
+unfolding sensor_radices
+overflow_mul-result-2 c = record { fits = omega (arith, (sensor_digits _ _ c.unpack-2.ensures.written).speed) }
 
 pub overflow_cast-result-4 : goal.overflow_cast-result-4
-unfolding Digits digits_of sensor_radices
-overflow_cast-result-4 c = record { fits = omega (arith, (let its : SensorDigits c.unpack-2.new.digits = let d = digits_in_range sensor_radices c.args.payload.lower sensor_positive in rw c.unpack-2.ensures.written (record { temperature = d.0; voltage = d.1.0; speed = d.1.1.0; gps = d.1.1.1.0 }) in its).speed) }
+unfolding sensor_radices
+overflow_cast-result-4 c = record { fits = omega (arith, (sensor_digits _ _ c.unpack-2.ensures.written).speed) }
 
 pub overflow_cast-result-5 : goal.overflow_cast-result-5
-unfolding Digits digits_of sensor_radices
-overflow_cast-result-5 c = record { fits = omega (arith, (let its : SensorDigits c.unpack-2.new.digits = let d = digits_in_range sensor_radices c.args.payload.lower sensor_positive in rw c.unpack-2.ensures.written (record { temperature = d.0; voltage = d.1.0; speed = d.1.1.0; gps = d.1.1.1.0 }) in its).gps) }
+unfolding sensor_radices
+overflow_cast-result-5 c = record { fits = omega (arith, (sensor_digits _ _ c.unpack-2.ensures.written).gps) }
 
 pub returns : goal.returns
-unfolding position_radices sensor_radices Digits digits_of
+unfolding position_radices sensor_radices
 returns c =
     let warm = c.degrees_of.ensures in
-    let held = to_z-of_z {w = w32} {z = c.degrees_of.result} (rw warm (degrees_fits _ (let its : SensorDigits c.unpack-2.new.digits = let d = digits_in_range sensor_radices c.args.payload.lower sensor_positive in rw c.unpack-2.ensures.written (record { temperature = d.0; voltage = d.1.0; speed = d.1.1.0; gps = d.1.1.1.0 }) in its).temperature)) in
+    let held = to_z-of_z {w = w32} {z = c.degrees_of.result} (rw warm (degrees_fits _ (sensor_digits _ _ c.unpack-2.ensures.written).temperature)) in
     made c.args.payload (held ∙ warm) c.millivolts_of.ensures c.unpack.ensures.written c.unpack-2.ensures.written

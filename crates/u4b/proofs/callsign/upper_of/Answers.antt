@@ -10,7 +10,7 @@ use Rattle.u4b.proofs.callsign.upper_of.Goals as goal
 pub pack-requires : goal.pack-requires
 unfolding upper_radices upper_digits
 pack-requires c =
-    record { digits = rw c.read_digits.ensures c.requires.digits; radices_bound = omega (arith, upper_count) }
+    record { digits = rw c.read_digits.ensures c.requires; radices_bound = omega (arith, upper_count) }
 
 pub returns : goal.returns
 unfolding upper_radices upper_digits upper_of

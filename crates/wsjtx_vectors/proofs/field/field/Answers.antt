@@ -1,9 +1,17 @@
--- `wsjtx_vectors::field::field` meets its contract: the bytes from the field's start to the next bar.
+-- `wsjtx_vectors::field::field` meets its contract: the bars cut the line into its fields.
 -- Assumes nothing.
-use mathlib.Core.Path.{◌∙◌}
-use Rattle.wsjtx_vectors.proofs.FieldLaws.{field_between}
+use mathlib.Core.Path.{refl, ap, ◌∙◌}
+use mathlib.Core.List.{[]}
+use Rattle.std.specs.Option.{unwrap_or}
+use Rattle.std.proofs.Common.{rules, tests}
+use Rattle.std.proofs.lemmas.Iterator.Consumers.{nth_from_yields_List}
+use Rattle.std.proofs.lemmas.Iterator.Splits.{YieldsList-from_slice_split}
+use Rattle.wsjtx_vectors.proofs.FieldLaws.{is_bar, field_is_part, behind_or_empty}
 use Rattle.wsjtx_vectors.proofs.field.field.Goals as goal
 
 pub returns : goal.returns
 returns c =
-    field_between c.args.line.now c.start_of-start.result c.field_end-end.result c.field_end-end.ensures.value ∙ c.start_of-start.ensures.line_value
+    let line = c.args.line.now in
+    let split = c.split.ensures in
+    let part = nth_from_yields_List c.nth.result _ c.args.number c.nth.ensures.ran (YieldsList-from_slice_split _ is_bar line split.rest split.done split.closure (λ x b q k. search (rules, tests))) in
+    ap (λ r. r.now) c.unwrap_or.ensures ∙ behind_or_empty c.nth.result _ refl ∙ ap (λ o. unwrap_or o []) part ∙ field_is_part c.args.number line
