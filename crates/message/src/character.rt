@@ -78,8 +78,8 @@ fn is_legal_at(place: usize, byte: u8) -> bool
     lowest <= value && value < lowest + size_at(place)
 }
 
-// The first place from `start` on whose character is outside its set. No `position`: the test may be made
-// at a message's places alone, which a closure over `enumerate` isn't known to keep to.
+// The first place from `start` on whose character is outside its set. No `position`: that counts
+// from 0, so `start` would be added once more, and it would be no plainer.
 fn first_bad(start: usize, bytes: &[u8]) -> Option<usize>
     requires { start + length bytes.now ≤ 10 }
     ensures { result ≡ some_below (start + length bytes.now) (first_bad start bytes.now) }
