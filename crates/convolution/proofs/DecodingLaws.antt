@@ -15,6 +15,14 @@ use Rattle.convolution.proofs.CodeLaws.{count_bits, bits_in_range, bits_number, 
 
 -- ---- One bit
 
+pub next_bit_zero : (register coded : ℕ) → parity first_mask (clocked register 0) ≡ coded → 0 ≡ next_bit register coded
+unfolding next_bit
+next_bit_zero register coded e = rw (eq-eqb _ _ e)
+
+pub next_bit_one : (register coded : ℕ) → (parity first_mask (clocked register 0) ≡ coded → ⊥) → 1 ≡ next_bit register coded
+unfolding next_bit
+next_bit_one register coded other = rw (ne_eqb _ _ other)
+
 pub next_bit_below : (register coded : ℕ) → next_bit register coded < 2
 unfolding next_bit
 next_bit_below register coded =

@@ -121,14 +121,16 @@ count_small f l =
     let once : (f.count - 1) * 1 ≤ span f = mul-le-mul_left (f.count - 1) l.positive in
     omega (arith, mul-one (f.count - 1), span_small f l, l.two)
 
--- Every reading fits.
+-- Every reading fits signed 32 bits.
+pub raised_fits : (f : Field) (n : ℕ) → Legal f → n ≤ span f → fits_signed32 (f.lowest +ℤ pos n) ≡ true
+raised_fits f n l h = fits_raised f.lowest n l.fits ∙ le-leb n (room f.lowest) (omega (arith, l.within))
+
+-- So the machine, which has signed 64, takes it as it is.
 pub lowest_fits : (f : Field) → Legal f → SFits w64 f.lowest
 lowest_fits f l = record { sfits = omega (arith, fits_small f.lowest l.fits) }
 
-pub raised_fits : (f : Field) (n : ℕ) → Legal f → n ≤ span f → SFits w64 (f.lowest +ℤ pos n)
-raised_fits f n l h =
-    let high : fits_signed32 (f.lowest +ℤ pos n) ≡ true = fits_raised f.lowest n l.fits ∙ le-leb n (room f.lowest) (omega (arith, l.within)) in
-    record { sfits = omega (arith, fits_small (f.lowest +ℤ pos n) high) }
+pub raised_fits64 : (f : Field) (n : ℕ) → Legal f → n ≤ span f → SFits w64 (f.lowest +ℤ pos n)
+raised_fits64 f n l h = record { sfits = omega (arith, fits_small (f.lowest +ℤ pos n) (raised_fits f n l h)) }
 
 -- A code's reading is no further above the lowest than the highest is.
 pub code_within : (f : Field) (code : ℕ) → code < f.count → code * f.step ≤ span f

@@ -182,6 +182,14 @@ module _ {A B S T : Type 0} {P : S → Type 0} {Q : T → Type 0} (f : Field →
   none_left (three ∷ threes) (x ∷ xs) (inl over) = absurd (omega (arith, over.1.0))
   none_left (three ∷ threes) (x ∷ xs) (inr over) = absurd (omega (arith, over.1.0))
 
+-- Where there is one for each field, no field is left either.
+module _ {A S T : Type 0} {P : S → Type 0} {Q : T → Type 0} where
+  pub no_field_left : (threes : List (List ℤ)) (xs : List A) → length xs ≡ length threes
+      → ((s : S) × ((length threes ≡ 0) × P s)) ⊎ ((t : T) × ((length xs ≡ 0) × Q t)) → threes ≡ []
+  no_field_left [] xs same over = refl
+  no_field_left (three ∷ threes) xs same (inl over) = absurd (omega (arith, over.1.0))
+  no_field_left (three ∷ threes) xs same (inr over) = absurd (omega (arith, same, over.1.0))
+
 -- The last of the fields that are left, and what it gives.
 legal_push : (fs : List Field) (f : Field) → legal_fields (fs ++ f ∷ []) ≡ true → (legal_field f ≡ true) × (legal_fields fs ≡ true)
 unfolding legal_fields

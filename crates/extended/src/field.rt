@@ -63,12 +63,12 @@ impl Field {
         (2 * y.abs_diff(self.lowest) + self.step) / (2 * self.step)
     }
 
-    // The reading of a code.
+    // The reading of a code. A plain sum: by the library's `strict_add_unsigned` it took longer.
     pub(crate) fn reading_of(self, code: u64) -> i64
         requires field_value { legal_field self ≡ true }
         requires code_lt_count { code < self.count }
         ensures { result ≡ field_reading self code }
     {
-        self.lowest.strict_add_unsigned(code * self.step)
+        self.lowest + (code * self.step) as i64
     }
 }

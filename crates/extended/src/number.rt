@@ -24,7 +24,7 @@ pub(crate) fn payload_from(header: Header, table: &Table, readings: &[i64]) -> P
     requires header_value { legal_slot_and_type header ≡ true }
     ensures { result ≡ extended_payload header table.now (codes_of table.now readings.now) }
 {
-    let upper = radix::pack(table.counts().as_slice(), table.codes(readings).as_slice());
+    let upper = table.pack(readings);
     let lower = radix::pack(
         &HEADER_RADICES,
         &[u64::from(header.slot), u64::from(header.kind), 0, 0],

@@ -1,7 +1,7 @@
 // The table of fields that the caller lends, and what is gathered field by field.
 ghost use Rattle.std.specs.Prelude.{◌≡◌, true, List, map, reverse, length};
 ghost use Rattle.std.specs.Option.{SomeIff};
-ghost use Rattle.radix.specs.Numeral.{Digits};
+ghost use Rattle.radix.specs.Numeral.{Digits, number_of};
 ghost use Rattle.extended.specs.Fields.{fields_of, field_in, legal_table, counts, codes_of, field_readings};
 ghost use Rattle.extended.specs.declared.field.Field.{Field};
 
@@ -53,7 +53,7 @@ impl<'a> Table<'a> {
         Some(Table { fields })
     }
 
-    // Below a loop for each list, and no `collect`: that takes an allocator, and may fail.
+    // Below loops that gather, and no `collect`: that takes an allocator, and may fail.
 
     // The counts of the fields, last field first. A caller sees the fields alone, so `legal` says what
     // holds of them.
@@ -68,16 +68,21 @@ impl<'a> Table<'a> {
         counts
     }
 
-    // The codes of the readings, last field first.
-    pub(crate) fn codes(&self, readings: &[i64]) -> PerField<u64>
+    // The number that the codes of the readings write, last field first. Counts and codes are gathered in
+    // one pass, and stay here: a list that is handed out is copied.
+    pub(crate) fn pack(&self, readings: &[i64]) -> u64
         requires { length readings.now ≡ length self.now }
-        ensures { result.items ≡ reverse (codes_of self.now readings.now) }
+        ensures value { result ≡ number_of (reverse (counts self.now)) (reverse (codes_of self.now readings.now)) }
+        ensures legal { legal_table self.now ≡ true }
     {
+        let mut counts = PerField::new();
         let mut codes = PerField::new();
         for (three, &reading) in self.fields.iter().rev().zip(readings.iter().rev()) {
-            codes.push(Field::of(three).code_of(reading));
+            let field = Field::of(three);
+            counts.push(field.count);
+            codes.push(field.code_of(reading));
         }
-        codes
+        radix::pack(counts.as_slice(), codes.as_slice())
     }
 
     // The readings of the codes, which stand last field first.

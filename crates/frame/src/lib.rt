@@ -48,9 +48,14 @@ pub fn write_message(
     let Some(symbols) = frame.as_mut_array::<162>() else {
         return Err(Refusal::WrongLength);
     };
-    let word = message::pack(callsign, locator, power)?;
-    writing::write_symbols(word, symbols);
-    Ok(())
+    // No `?`: the refusal has an arm of its own, as in the definition `written_as`.
+    match message::pack(callsign, locator, power) {
+        Ok(word) => {
+            writing::write_symbols(word, symbols);
+            Ok(())
+        }
+        Err(refusal) => Err(refusal),
+    }
 }
 
 // The word of a frame.

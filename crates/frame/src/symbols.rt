@@ -8,11 +8,19 @@ ghost use Rattle.frame.specs.Answer.{first_large, first_wrong_sync, word_of_data
 use super::sync::sync_vector;
 use refusal::Refusal;
 
-// The first place whose symbol is above 3.
+// The largest symbol.
+const LARGEST: u8 = 3;
+
+// The first place whose symbol is above 3. By `position` a frame took longer.
 pub fn first_large(frame: &[u8]) -> Option<usize>
     ensures { result ≡ some_below (length frame.now) (first_large frame.now) }
 {
-    frame.iter().position(|symbol| 3 < *symbol)
+    for (place, &symbol) in frame.iter().enumerate() {
+        if LARGEST < symbol {
+            return Some(place);
+        }
+    }
+    None
 }
 
 // The first place whose sync bit is wrong.

@@ -7,7 +7,7 @@ use Rattle.basics.proofs.ListLaws.{first_failing_map}
 use Rattle.message.specs.Character.{capital, capital_form, set_at, legal_at, first_bad, digit_at, character_at, over_places, digits_from, characters_from}
 use Rattle.message.specs.Word.{callsign_number, locator_number, word_of}
 use Rattle.message.specs.Answer.{right_lengths, message_checked, message_packed, check_numbers}
-use Rattle.std.specs.Prelude.{Result}
+use Rattle.std.specs.Prelude.{Result, Err}
 use Rattle.refusal.specs.declared.Refusal.{Refusal}
 use Rattle.message.proofs.CharacterLaws.{value_capital, capital_character}
 
@@ -80,3 +80,17 @@ module _ (callsign locator : List ℕ) (power : ℕ) where
     numbers = ap check_numbers (sym e);
     as_capitals = sym (checked_capitals callsign locator power ∙ e);
   }
+
+  -- What `Message::checked` promises of a refusal.
+  abbrev pub CheckedRefused : Refusal → Type 0
+  CheckedRefused f = record {
+    answer : Err f ≡ message_checked callsign locator power;
+    numbers : check_numbers (Err f) ≡ check_numbers (message_checked callsign locator power);
+    as_capitals : Err f ≡ message_checked (capital_form callsign) (capital_form locator) power;
+    parts : Unit {0};
+  }
+
+  pub checked_refused : (f : Refusal) → message_checked callsign locator power ≡ Err f → CheckedRefused f
+  checked_refused f e =
+      let said = check_promised (Err f) e in
+      record { answer = said.answer; numbers = said.numbers; as_capitals = said.as_capitals; parts = tt }

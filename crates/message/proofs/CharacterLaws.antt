@@ -148,11 +148,22 @@ lowest_by place =
 
 -- Places 0 to 2 have a size each.
 abbrev pub size_for : ℕ → ℕ
-size_for place = cond (ltb place 3) (set_at place).size (cond (ltb place 6) 27 (cond (ltb place 8) 18 10))
+size_for place =
+    cond (eqb place 0) 37
+    (cond (eqb place 1) 36
+    (cond (eqb place 2) 10
+    (cond (ltb place 6) 27
+    (cond (ltb place 8) 18 10))))
 
 pub size_by_place : (place : ℕ) → place < 10 → (set_at place).size ≡ size_for place
 unfolding set_at callsign_sets locator_sets
 size_by_place place h = eqb-true _ _ (below_at (λ (p : ℕ). eqb (set_at p).size (size_for p)) 10 refl place h)
+
+-- The sizes of the places past the third.
+pub size_past_2 : (place : ℕ) → place < 10 → 3 ≤ place → (set_at place).size ≡ cond (ltb place 6) 27 (cond (ltb place 8) 18 10)
+size_past_2 place h past =
+    size_by_place place h
+    ∙ rw (ne_eqb place 0 (λ e. absurd (omega (arith, e))), ne_eqb place 1 (λ e. absurd (omega (arith, e))), ne_eqb place 2 (λ e. absurd (omega (arith, e))))
 
 -- No set goes past the space.
 pub set_end : (place : ℕ) → (set_at place).lowest + (set_at place).size ≤ 37

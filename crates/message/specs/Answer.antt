@@ -20,6 +20,11 @@ message_checked callsign locator power =
     (cond (ltb bad 10) (Err (Refusal.BadCharacter bad))
     (cond (not (legal_power power)) (Err Refusal.BadPower) (Ok tt)))
 
+-- What an answer says beside its value: that there is one, or why not.
+abbrev pub outcome : {A : Type 0} → Result A Refusal → Result (Unit {0}) Refusal
+outcome (Ok a) = Ok tt
+outcome (Err f) = Err f
+
 -- ---- From a message to its word
 
 -- The word where the message is legal, else its refusal.

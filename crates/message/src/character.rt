@@ -96,7 +96,10 @@ fn first_bad(start: usize, bytes: &[u8]) -> Option<usize>
 pub(crate) fn first_bad_of(callsign: &[u8; 6], locator: &[u8; 4]) -> Option<usize>
     ensures { result ≡ some_below 10 (first_bad 0 (callsign.now ++ locator.now)) }
 {
-    first_bad(0, callsign).or(first_bad(6, locator))
+    match first_bad(0, callsign) {
+        Some(place) => Some(place),
+        None => first_bad(6, locator),
+    }
 }
 
 // A character's value, counted from the lowest of its place's set: 0 below it, as the definition's

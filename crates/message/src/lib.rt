@@ -4,10 +4,10 @@
 pub mod character;
 mod word;
 
-ghost use Rattle.std.specs.Prelude.{◌≡◌, true, Ok, Err, IfOk, MatchResult};
+ghost use Rattle.std.specs.Prelude.{◌≡◌, true, IfOk};
 ghost use Rattle.power.specs.Powers.{legal_power};
 ghost use Rattle.message.specs.Character.{capital_form, first_bad};
-ghost use Rattle.message.specs.Answer.{right_lengths, message_checked, message_packed, word_unpacked, callsign_after_unpack, locator_after_unpack, check_numbers, word_numbers, message_numbers};
+ghost use Rattle.message.specs.Answer.{right_lengths, outcome, message_checked, message_packed, word_unpacked, callsign_after_unpack, locator_after_unpack, check_numbers, word_numbers, message_numbers};
 ghost use Rattle.message.specs.RoundTrip.{UnpacksBack, PacksBack, WrittenInCapitals, UnpackRefusedExactly};
 
 use refusal::Refusal;
@@ -24,9 +24,12 @@ pub struct Message {
 }
 
 impl Message {
-    // The message of what is lent, where that is legal.
+    // The message of what is lent, as it was typed, where it is legal. It is so exactly where its capital form
+    // is, and else is refused as that is.
     pub fn checked(callsign: &[u8], locator: &[u8], power: u32) -> Result<Self, Refusal>
-        ensures answer { MatchResult result (λ _. message_checked callsign.now locator.now power ≡ Ok tt) (λ f. message_checked callsign.now locator.now power ≡ Err f) }
+        ensures answer { outcome result ≡ message_checked callsign.now locator.now power }
+        ensures numbers { check_numbers (outcome result) ≡ check_numbers (message_checked callsign.now locator.now power) }
+        ensures as_capitals { outcome result ≡ message_checked (capital_form callsign.now) (capital_form locator.now) power }
         ensures parts { IfOk result (λ m. (m.callsign ≡ callsign.now) × (m.locator ≡ locator.now) × (m.power ≡ power)) }
     {
         let (Some(callsign), Some(locator)) = (callsign.as_array::<6>(), locator.as_array::<4>())
@@ -86,11 +89,14 @@ pub fn unpack(word: u64, callsign: &mut [u8], locator: &mut [u8]) -> Result<u32,
     ensures in_capitals { WrittenInCapitals result callsign.new locator.new }
     ensures refuses_exactly { UnpackRefusedExactly result word callsign.old locator.old }
 {
-    if !right_lengths(callsign.len(), locator.len()) {
+    let Some(callsign) = callsign.as_mut_array::<6>() else {
         return Err(Refusal::WrongLength);
-    }
+    };
+    let Some(locator) = locator.as_mut_array::<4>() else {
+        return Err(Refusal::WrongLength);
+    };
     let power = word::power_of(word)?;
-    callsign.copy_from_slice(&word::callsign_of(word));
-    locator.copy_from_slice(&word::locator_of(word));
+    word::write_callsign(word, callsign);
+    word::write_locator(word, locator);
     Ok(power)
 }

@@ -88,25 +88,21 @@ pub(crate) fn power_of(word: u64) -> Result<u32, Refusal>
     Ok(bits - 64)
 }
 
-// The callsign of a word.
-pub(crate) fn callsign_of(word: u64) -> [u8; 6]
-    ensures { result ≡ callsign_of word }
+// Writes the callsign of a word.
+pub(crate) fn write_callsign(word: u64, callsign: &mut [u8; 6])
+    ensures { callsign.new ≡ callsign_of word }
 {
     let mut digits = [0u64; 6];
     radix::unpack(callsign_part(word), &CALLSIGN_RADICES, &mut digits);
-    let mut callsign = [b' '; 6];
-    write_characters(0, &digits, &mut callsign);
-    callsign
+    write_characters(0, &digits, callsign);
 }
 
-// The locator of a word.
-pub(crate) fn locator_of(word: u64) -> [u8; 4]
-    ensures { result ≡ locator_of word }
+// Writes the locator of a word.
+pub(crate) fn write_locator(word: u64, locator: &mut [u8; 4])
+    ensures { locator.new ≡ locator_of word }
 {
     let mut digits = [0u64; 4];
     radix::unpack(locator_part(word), &LOCATOR_RADICES, &mut digits);
     let values = [17 - digits[0], digits[2], 9 - digits[1], digits[3]];
-    let mut locator = [b' '; 4];
-    write_characters(6, &values, &mut locator);
-    locator
+    write_characters(6, &values, locator);
 }

@@ -1,13 +1,29 @@
 -- One turn of the loops of `pack` and `unpack`, over the radices that are left.
-use mathlib.Core.Path.{◌≡◌, ◌∙◌}
-use Prim.Native.Nat.{ℕ, ◌+◌, ◌*◌, ◌/◌, ◌%◌, ◌^◌, ◌≤◌, ◌<◌}
+use mathlib.Core.Path.{◌≡◌, refl, ◌∙◌}
+use Prim.Native.Nat.{ℕ, zero, suc, ◌+◌, ◌*◌, ◌/◌, ◌%◌, ◌^◌, ◌≤◌, ◌<◌}
 use native.Mathlib.Nat.{mul-le-mul_left, mul_comm, mul-one, div-one, div-div-eq-div-mul}
 use native.Mathlib.Omega.{arith}
 use mathlib.Core.List.{List, [], ◌∷◌, ◌++◌}
-use lib.ListN.{length, drop, set, length-set, length-append}
-use Rattle.std.proofs.lemmas.List.{append_assoc, drop-set}
+use lib.ListN.{length, get_or, drop, drop_of_length-le, set, length-set, length-append}
+use Rattle.std.proofs.lemmas.List.{append-nil, append_assoc, drop-set}
 use Rattle.radix.specs.Numeral.{Digits, Positive, count, number_from, number_of, digits_of}
 use Rattle.radix.proofs.Laws.{digits_positive, count_positive, count_append, number_from_front, number_below, digits_of_append}
+
+-- ---- Radices and digits from an index on
+
+pub digits_drop : (i : ℕ) (rs ds : List ℕ) → Digits rs ds → Digits (drop i rs) (drop i ds)
+unfolding Digits
+digits_drop zero rs ds h = h
+digits_drop (suc i) [] [] h = h
+digits_drop (suc i) [] (d ∷ ds) h = absurd h
+digits_drop (suc i) (r ∷ rs) [] h = absurd h
+digits_drop (suc i) (r ∷ rs) (d ∷ ds) h = digits_drop i rs ds h.1
+
+pub positive_at : (rs : List ℕ) (i : ℕ) → Positive rs → i < length rs → 0 < get_or rs i 0
+unfolding Positive
+positive_at [] i h k = omega arith
+positive_at (r ∷ rs) zero h k = h.0
+positive_at (r ∷ rs) (suc i) h k = positive_at rs i h.1 (omega arith)
 
 -- ---- pack
 
@@ -44,6 +60,15 @@ pub record Unpacking (radices : List ℕ) (number : ℕ) (digits : List ℕ) (re
   pub within : length left ≤ length digits
   pub quotient : rest / count left ≡ number / count radices
   pub written : digits_of left rest ++ drop (length left) digits ≡ digits_of radices number
+
+pub unpack_starts : (radices : List ℕ) (number : ℕ) (digits : List ℕ) → Positive radices → length digits ≡ length radices
+    → Unpacking radices number digits number radices
+unpack_starts radices number digits h e = record {
+  positive = h;
+  within = omega (arith, e);
+  quotient = refl;
+  written = rw (drop_of_length-le digits {i = length radices} (omega (arith, e))) (append-nil (digits_of radices number));
+}
 
 -- The last of the radices that are left.
 positive_last : (rs : List ℕ) (r : ℕ) → Positive (rs ++ (r ∷ [])) → Positive rs × (0 < r)

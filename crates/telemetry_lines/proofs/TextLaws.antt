@@ -1,6 +1,6 @@
 -- Laws of numbers as text, and the bounds of a line of output.
-use mathlib.Core.Path.{◌≡◌}
-use Prim.Native.Nat.{ℕ, zero, suc, ◌/◌, ◌^◌, ◌≤◌, ◌<◌}
+use mathlib.Core.Path.{◌≡◌, sym, ap, ◌∙◌}
+use Prim.Native.Nat.{ℕ, zero, suc, ◌+◌, ◌/◌, ◌^◌, ◌≤◌, ◌<◌}
 use native.Mathlib.Nat.{pow-suc}
 use native.Mathlib.Omega.{arith}
 use mathlib.Core.List.{List, [], ◌∷◌, ◌++◌, append_assoc}
@@ -111,3 +111,42 @@ unfolding refusal_text line_of bytes
 refusal_words f n p =
     rw (decimal_is (refusal_number f) n, decimal_is (refusal_place f) p)
     (append_assoc (bytes "refused" ++ (space ∷ decimal_text (refusal_number f))) (space ∷ decimal_text (refusal_place f)) (newline ∷ []))
+
+-- ---- The same words behind what stands before
+
+four_behind : (before a b c d : List ℕ) → (((before ++ a) ++ b) ++ c) ++ d ≡ before ++ (((a ++ b) ++ c) ++ d)
+four_behind before a b c d = simp append_assoc
+
+eight_behind : (before a b c d e f g h : List ℕ)
+    → (((((((before ++ a) ++ b) ++ c) ++ d) ++ e) ++ f) ++ g) ++ h ≡ before ++ (((((((a ++ b) ++ c) ++ d) ++ e) ++ f) ++ g) ++ h)
+eight_behind before a b c d e f g h = simp append_assoc
+
+-- A number of one digit.
+pub digit_behind : (before : List ℕ) (n : ℕ) → n < 10 → (before ++ (space ∷ [])) ++ ((48 + n) ∷ []) ≡ before ++ (space ∷ decimal n)
+digit_behind before n h =
+    append_assoc before (space ∷ []) ((48 + n) ∷ []) ∙ ap (λ (digits : List ℕ). before ++ (space ∷ digits)) (sym (decimal_digit n h))
+
+pub reading_behind : (before : List ℕ) (r : Reading)
+    → r.sensors.altitude < 2 ^ 32 → SFits w32 r.sensors.temperature → r.sensors.voltage < 2 ^ 32 → r.sensors.speed < 2 ^ 32 → r.sensors.gps < 2 ^ 32
+    → (((((((before ++ (r.channel.first ∷ r.channel.third ∷ space ∷ [])) ++ (r.square.grid5 ∷ r.square.grid6 ∷ []))
+    ++ (space ∷ decimal r.sensors.altitude)) ++ (space ∷ signed_decimal r.sensors.temperature)) ++ (space ∷ decimal r.sensors.voltage))
+    ++ (space ∷ decimal r.sensors.speed)) ++ (space ∷ decimal r.sensors.gps)) ++ (newline ∷ [])
+    ≡ before ++ reading_text r
+reading_behind before r a t v s g =
+    eight_behind before
+    (r.channel.first ∷ r.channel.third ∷ space ∷ [])
+    (r.square.grid5 ∷ r.square.grid6 ∷ [])
+    (space ∷ decimal r.sensors.altitude)
+    (space ∷ signed_decimal r.sensors.temperature)
+    (space ∷ decimal r.sensors.voltage)
+    (space ∷ decimal r.sensors.speed)
+    (space ∷ decimal r.sensors.gps)
+    (newline ∷ [])
+    ∙ ap (λ (text : List ℕ). before ++ text) (reading_words r a t v s g)
+
+pub refusal_behind : (before : List ℕ) (f : Refusal) → refusal_number f < 2 ^ 32 → refusal_place f < 2 ^ 32
+    → (((before ++ bytes "refused") ++ (space ∷ decimal (refusal_number f))) ++ (space ∷ decimal (refusal_place f))) ++ (newline ∷ [])
+    ≡ before ++ refusal_text f
+refusal_behind before f n p =
+    four_behind before (bytes "refused") (space ∷ decimal (refusal_number f)) (space ∷ decimal (refusal_place f)) (newline ∷ [])
+    ∙ ap (λ (text : List ℕ). before ++ text) (refusal_words f n p)

@@ -4,7 +4,7 @@ ghost use Rattle.telemetry_lines.specs.Text.{longest_line};
 ghost use Rattle.telemetry_lines.specs.Stream.{most_kept, line_after, output_after, last_text, held_by};
 
 use super::line::Line;
-use super::output::{Text, answer_text, put};
+use super::output::{Text, put_answer};
 use arrayvec::ArrayVec;
 
 // What ends a line.
@@ -24,8 +24,7 @@ pub(crate) fn answer(line: &mut Line, input: &[u8], out: &mut Output)
     out.clear();
     for &byte in input {
         if byte == NEWLINE {
-            let text = answer_text(line.answer());
-            put(text.as_slice(), out);
+            put_answer(line.answer(), out);
             line.clear();
         } else {
             line.push(byte);
@@ -38,8 +37,10 @@ pub(crate) fn answer(line: &mut Line, input: &[u8], out: &mut Output)
 pub(crate) fn answer_last(line: &Line) -> Text
     ensures { result.items ≡ last_text (held_by line.now) }
 {
+    let mut text = Text::new();
     if line.is_empty() {
-        return Text::new();
+        return text;
     }
-    answer_text(line.answer())
+    put_answer(line.answer(), &mut text);
+    text
 }

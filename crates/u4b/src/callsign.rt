@@ -9,17 +9,15 @@ use message::character::{read_digits, write_characters};
 // For places 1, 3, 4 and 5.
 const UPPER_RADICES: [u64; 4] = [36, 26, 26, 26];
 
-// The callsign with the channel's characters, in places 0 and 2, and the number.
-pub(crate) fn callsign_with(channel: Channel, upper: u64) -> [u8; 6]
-    ensures { result ≡ callsign_with channel upper }
+// Writes the callsign with the channel's characters, in places 0 and 2, and the number.
+pub(crate) fn write_callsign(channel: Channel, upper: u64, callsign: &mut [u8; 6])
+    ensures { callsign.new ≡ callsign_with channel upper }
 {
     let mut d = [0u64; 4];
     radix::unpack(upper, &UPPER_RADICES, &mut d);
-    let mut callsign = [b' '; 6];
-    write_characters(0, &[0, d[0], 0, d[1], d[2], d[3]], &mut callsign);
+    write_characters(0, &[0, d[0], 0, d[1], d[2], d[3]], callsign);
     callsign[0] = channel.first;
     callsign[2] = channel.third;
-    callsign
 }
 
 // The upper number in a callsign.

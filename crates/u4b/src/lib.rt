@@ -44,9 +44,12 @@ pub fn write(
     ensures reads_back { PayloadReadsBack result taken payload callsign.new locator.new }
     ensures in_capitals { WrittenInCapitals result callsign.new locator.new }
 {
-    if !message::right_lengths(callsign.len(), locator.len()) {
+    let Some(callsign) = callsign.as_mut_array::<6>() else {
         return Err(Refusal::WrongLength);
-    }
+    };
+    let Some(locator) = locator.as_mut_array::<4>() else {
+        return Err(Refusal::WrongLength);
+    };
     let channel = payload.channel;
     if !channel::is_first_character(taken, channel.first) {
         return Err(Refusal::OutOfRange(0));
@@ -54,10 +57,8 @@ pub fn write(
     if !channel::is_third_character(channel.third) {
         return Err(Refusal::OutOfRange(1));
     }
-    let (its_locator, power) = locator::locator_and_power_with(payload.lower);
-    callsign.copy_from_slice(&callsign::callsign_with(channel, payload.upper));
-    locator.copy_from_slice(&its_locator);
-    Ok(power)
+    callsign::write_callsign(channel, payload.upper, callsign);
+    Ok(locator::write_locator(payload.lower, locator))
 }
 
 // The payload of a message, the same as that of its capital form.

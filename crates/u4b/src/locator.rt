@@ -8,19 +8,15 @@ use message::character::{read_digits, write_characters};
 // For places 6 to 9 and the power's index.
 const LOWER_RADICES: [u64; 5] = [18, 18, 10, 10, 19];
 
-// The locator and the power with the number.
-pub(crate) fn locator_and_power_with(lower: u64) -> ([u8; 4], u32)
-    ensures { result ≡ (locator_with lower, power_with lower) }
+// Writes the locator with the number; its power is returned.
+pub(crate) fn write_locator(lower: u64, locator: &mut [u8; 4]) -> u32
+    ensures its_power { result ≡ power_with lower }
+    ensures its_locator { locator.new ≡ locator_with lower }
 {
     let mut digits = [0u64; 5];
     radix::unpack(lower, &LOWER_RADICES, &mut digits);
-    let mut locator = [b' '; 4];
-    write_characters(
-        6,
-        &[digits[0], digits[1], digits[2], digits[3]],
-        &mut locator,
-    );
-    (locator, power::power_at(digits[4] as u32))
+    write_characters(6, &[digits[0], digits[1], digits[2], digits[3]], locator);
+    power::power_at(digits[4] as u32)
 }
 
 // The lower number in the locator and the power of a message.

@@ -20,7 +20,7 @@ returns-in_err-message c =
     let passed = err_from_is_err_and c.from_residual.result c.from_residual.ensures.1 in
     rw (passed.1, passed.2)
     (read_promised a.taken a.callsign.now a.locator.now a.power _
-    (read_illegal a.taken a.callsign.now a.locator.now a.power _ c.in_err-message.ensures.answer))
+    (read_illegal a.taken a.callsign.now a.locator.now a.power _ (sym c.in_err-message.ensures.answer)))
 
 pub overflow_cast-result : goal.overflow_cast-result
 overflow_cast-result c = omega (arith, (some_below_found _ _ _ (sym c.first_not_taken.ensures ∙ c.in-Some.is)).1)
@@ -31,7 +31,7 @@ returns-in-Some c =
     let parts = c.in_ok-message.ensures.parts in
     let place = some_below_found _ _ _ (sym c.first_not_taken.ensures ∙ c.in-Some.is) in
     read_promised a.taken a.callsign.now a.locator.now a.power _
-    (read_not_taken a.taken a.callsign.now a.locator.now a.power c.in_ok-message.ensures.answer _ (rw (← parts.0) place.0) (omega arith))
+    (read_not_taken a.taken a.callsign.now a.locator.now a.power (sym c.in_ok-message.ensures.answer) _ (rw (← parts.0) place.0) (omega arith))
 
 pub upper_of-requires : goal.upper_of-requires
 upper_of-requires c =
@@ -50,4 +50,4 @@ returns c =
     let taken : 6 ≤ first_not_taken (payload_alphabet a.taken) m.callsign =
     omega (arith, some_below_none _ _ (sym c.first_not_taken.ensures ∙ c.in_default.is)) in
     rw (c.capital_of.ensures, ← third, c.upper_of.ensures, c.lower_of.ensures, parts.0, parts.1, parts.2)
-    (read_promised a.taken a.callsign.now a.locator.now a.power _ (read_payload a.taken a.callsign.now a.locator.now a.power c.in_ok-message.ensures.answer (rw (← parts.0) taken)))
+    (read_promised a.taken a.callsign.now a.locator.now a.power _ (read_payload a.taken a.callsign.now a.locator.now a.power (sym c.in_ok-message.ensures.answer) (rw (← parts.0) taken)))

@@ -3,7 +3,6 @@
 use Rattle.std.proofs.Common.{◌≡◌, true, ◌<◌, List, reverse, length, arith}
 use lib.IntN.{ℤ}
 use Rattle.radix.specs.Numeral.{Digits, number_of}
-use Rattle.radix.proofs.Laws.{count_reverse, digits_reverse}
 use Rattle.extended.specs.Fields.{legal_table, counts, codes_of}
 use Rattle.extended.specs.Number.{header_radices, header_digits}
 use Rattle.extended.specs.Answer.{legal_slot_and_type}
@@ -23,17 +22,6 @@ module _ (fs : List Field) (readings : List ℤ) (t : legal_table fs ≡ true) (
   numerals_small h k =
       (upper_below h fs (codes_of fs readings) k below (legal_of_table fs t).product, lower_below h fs (codes_of fs readings) k below)
 
-pub pack-upper-requires-clause-digits : goal.pack-upper-requires-clause-digits
-pack-upper-requires-clause-digits c =
-    let fs = c.args.table.now in
-    rw (c.as_slice.ensures.value, c.as_slice-2.ensures.value, c.counts.ensures.value, c.codes.ensures)
-    (digits_reverse (counts fs) (codes_of fs c.args.readings.now) (below fs c.args.readings.now c.counts.ensures.legal c.requires.readings_len))
-
-pub pack-upper-requires-clause-radices_bound : goal.pack-upper-requires-clause-radices_bound
-pack-upper-requires-clause-radices_bound c =
-    let fs = c.args.table.now in
-    rw (c.as_slice.ensures.value, c.counts.ensures.value) (omega (arith, count_reverse (counts fs), (legal_of_table fs c.counts.ensures.legal).product))
-
 pub pack-lower-requires-clause-digits : goal.pack-lower-requires-clause-digits
 unfolding header_radices header_digits
 pack-lower-requires-clause-digits c = rw (c.from.ensures, c.from-2.ensures) (header_below c.args.header c.requires.header_value)
@@ -44,22 +32,20 @@ pack-lower-requires-clause-radices_bound c = omega (arith, header_count)
 
 pub overflow_mul-number : goal.overflow_mul-number
 overflow_mul-number c =
-    let small = numerals_small c.args.table.now c.args.readings.now c.counts.ensures.legal c.requires.readings_len c.args.header c.requires.header_value in
-    let upper = rw (c.as_slice.ensures.value, c.as_slice-2.ensures.value, c.counts.ensures.value, c.codes.ensures) at c.pack-upper.ensures in
-    record { fits = omega (arith, small.0, upper) }
+    let small = numerals_small c.args.table.now c.args.readings.now c.pack-upper.ensures.legal c.requires.readings_len c.args.header c.requires.header_value in
+    record { fits = omega (arith, small.0, c.pack-upper.ensures.value) }
 
 pub overflow_add-number : goal.overflow_add-number
 unfolding header_radices header_digits
 overflow_add-number c =
-    let small = numerals_small c.args.table.now c.args.readings.now c.counts.ensures.legal c.requires.readings_len c.args.header c.requires.header_value in
-    let upper = rw (c.as_slice.ensures.value, c.as_slice-2.ensures.value, c.counts.ensures.value, c.codes.ensures) at c.pack-upper.ensures in
+    let small = numerals_small c.args.table.now c.args.readings.now c.pack-upper.ensures.legal c.requires.readings_len c.args.header c.requires.header_value in
     let lower = rw (c.from.ensures, c.from-2.ensures) at c.pack-lower.ensures in
-    record { fits = omega (arith, small.0, small.1, upper, lower) }
+    record { fits = omega (arith, small.0, small.1, c.pack-upper.ensures.value, lower) }
 
 pub returns : goal.returns
 unfolding header_radices header_digits
 returns c =
     let fs = c.args.table.now in
     let xs = c.args.readings.now in
-    payload_is c.args.header fs (codes_of fs xs) c.requires.header_value (below fs xs c.counts.ensures.legal c.requires.readings_len) c.pack-upper.result c.pack-lower.result
-    (rw (c.as_slice.ensures.value, c.as_slice-2.ensures.value, c.counts.ensures.value, c.codes.ensures) at c.pack-upper.ensures) (rw (c.from.ensures, c.from-2.ensures) at c.pack-lower.ensures)
+    payload_is c.args.header fs (codes_of fs xs) c.requires.header_value (below fs xs c.pack-upper.ensures.legal c.requires.readings_len) c.pack-upper.result c.pack-lower.result
+    c.pack-upper.ensures.value (rw (c.from.ensures, c.from-2.ensures) at c.pack-lower.ensures)

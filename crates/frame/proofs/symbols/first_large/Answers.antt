@@ -1,16 +1,24 @@
 -- `frame::symbols::first_large` meets its contract: it looks for the first place whose symbol is above 3.
 -- Assumes nothing.
-use Rattle.std.proofs.Common.{◌∙◌, refl, ltb, rules, arith, tests}
-use Rattle.std.proofs.lemmas.Bool.Decides.{nat_tests}
-use Rattle.std.proofs.lemmas.Iterator.{YieldsList-from_slice}
-use Rattle.std.proofs.lemmas.Iterator.Search.{position_from_yields_List}
-use Rattle.basics.proofs.SearchLaws.{position_first_failing}
+use mathlib.Core.Path.{sym, ◌∙◌}
+use native.Mathlib.Omega.{arith}
+use borrow.Author.Tests.{le-leb, lt-leb}
+use Rattle.basics.proofs.ListLaws.{search_found, search_next, search_none}
+use Rattle.basics.proofs.SearchLaws.{some_below_at, some_below_past}
 use Rattle.frame.specs.Answer.{is_symbol, first_large}
 use Rattle.frame.proofs.symbols.first_large.Goals as goal
+
+pub returns-then-symbol-gt-LARGEST : goal.returns-then-symbol-gt-LARGEST
+unfolding first_large
+returns-then-symbol-gt-LARGEST c =
+    let found = search_found is_symbol c.args.frame.now c.loop-place.place c.loop-place.invariant 0 (omega arith) (lt-leb _ _ (omega arith)) in
+    sym (some_below_at _ _ _ (sym found) (omega arith))
+
+pub loop-place-preserved : goal.loop-place-preserved
+loop-place-preserved c = search_next is_symbol c.args.frame.now c.loop-place.place c.loop-place.invariant 0 (omega arith) (le-leb _ _ (omega arith))
 
 pub returns : goal.returns
 unfolding first_large
 returns c =
-    let frame = c.args.frame.now in
-    position_from_yields_List (ltb 3) _ _ _ c.position.ensures.ran (YieldsList-from_slice frame cc) (λ x b q k. search (rules, tests))
-    ∙ position_first_failing is_symbol (ltb 3) 0 0 frame frame refl (λ i h. grind (arith, nat_tests))
+    let none = search_none is_symbol c.args.frame.now c.loop-place.place c.loop-place.invariant (omega arith) in
+    sym (some_below_past _ _ (omega (arith, none)))

@@ -4,7 +4,7 @@ use mathlib.Core.Path.{sym, ◌∙◌}
 use native.Mathlib.Omega.{arith}
 use borrow.Author.Tests.{lt-ltb, le-ltb}
 use Rattle.message.specs.Character.{set_at, callsign_sets, locator_sets}
-use Rattle.message.proofs.CharacterLaws.{size_by_place}
+use Rattle.message.proofs.CharacterLaws.{size_past_2}
 use Rattle.message.proofs.character.size_at.Goals as goal
 
 pub returns-in-0 : goal.returns-in-0
@@ -22,14 +22,14 @@ returns-in-2 c = rw c.in-2.is
 pub returns-in-3-to-5 : goal.returns-in-3-to-5
 returns-in-3-to-5 c =
     let place = c.args.place in
-    sym (size_by_place place c.requires ∙ rw (le-ltb place 3 (omega arith), lt-ltb place 6 (omega arith)))
+    sym (size_past_2 place c.requires (omega arith) ∙ rw (lt-ltb place 6 (omega arith)))
 
 pub returns-in-6 : goal.returns-in-6
 returns-in-6 c =
     let place = c.args.place in
-    sym (size_by_place place c.requires ∙ rw (le-ltb place 3 (omega arith), le-ltb place 6 (omega arith), lt-ltb place 8 (omega arith)))
+    sym (size_past_2 place c.requires (omega arith) ∙ rw (le-ltb place 6 (omega arith), lt-ltb place 8 (omega arith)))
 
 pub returns-in_default : goal.returns-in_default
 returns-in_default c =
     let place = c.args.place in
-    sym (size_by_place place c.requires ∙ rw (le-ltb place 3 (omega arith), le-ltb place 6 (omega arith), le-ltb place 8 (omega arith)))
+    sym (size_past_2 place c.requires (omega arith) ∙ rw (le-ltb place 6 (omega arith), le-ltb place 8 (omega arith)))

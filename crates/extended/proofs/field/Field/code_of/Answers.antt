@@ -10,7 +10,7 @@ use Rattle.std.specs.Int.{int_max, int_min}
 use Rattle.basics.proofs.Integers.{+ℤ-mono-≤}
 use Rattle.extended.specs.Fields.{field_reading, highest, clamped, code_of}
 use Rattle.extended.specs.declared.field.Field.{Field}
-use Rattle.extended.proofs.FieldLaws.{clamp_is, Legal, legal, span, span_small, step_small, lowest_fits, raised_fits, offset, offset_within, clamped_offset}
+use Rattle.extended.proofs.FieldLaws.{clamp_is, Legal, legal, span, span_small, step_small, lowest_fits, raised_fits64, offset, offset_within, clamped_offset}
 use Rattle.extended.proofs.field.Field.code_of.Goals as goal
 
 module _ (f : Field) (l : Legal f) where
@@ -20,10 +20,10 @@ module _ (f : Field) (l : Legal f) where
 
   highest_fits : SFits w64 (highest f)
   unfolding highest field_reading
-  highest_fits = raised_fits f (span f) l (omega arith)
+  highest_fits = raised_fits64 f (span f) l (omega arith)
 
   clamped_fits : (x : ℤ) → SFits w64 (clamped f x)
-  clamped_fits x = rw (clamped_offset f l x) (raised_fits f (offset f l x) l (offset_within f l x))
+  clamped_fits x = rw (clamped_offset f l x) (raised_fits64 f (offset f l x) l (offset_within f l x))
 
   -- How far the machine's clamped reading is above the lowest.
   above_is : (x high y : ℤ) (n : ℕ) → SFits w64 x → high ≡ highest f

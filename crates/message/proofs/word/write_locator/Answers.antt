@@ -1,4 +1,4 @@
--- `message::word::locator_of` meets its contract: `radix::unpack` gives the digits; the values that they give are below the sizes of
+-- `message::word::write_locator` meets its contract: `radix::unpack` gives the digits; the values that they give are below the sizes of
 -- their sets, and `write_characters` writes their characters.
 -- Assumes nothing.
 use mathlib.Core.Path.{refl}
@@ -7,7 +7,7 @@ use Rattle.radix.specs.Numeral.{Digits, digits_of}
 use Rattle.radix.proofs.Laws.{digits_in_range}
 use Rattle.message.specs.Word.{locator_radices, locator_values, locator_part, locator_with_number, locator_of}
 use Rattle.message.proofs.WordLaws.{locator_positive, locator_values_at}
-use Rattle.message.proofs.word.locator_of.Goals as goal
+use Rattle.message.proofs.word.write_locator.Goals as goal
 
 pub unpack-requires : goal.unpack-requires
 unfolding locator_radices
@@ -28,7 +28,7 @@ overflow_sub-values-2 c =
 pub write_characters-requires : goal.write_characters-requires
 unfolding locator_radices locator_values
 write_characters-requires c =
-    rw (c.unpack.ensures.written, c.locator_part.ensures) (record { bytes_bound = omega arith; digits_len = refl; digits_at = locator_values_at _ })
+    rw (c.unpack.ensures.written, c.locator_part.ensures) (record { bytes_bound = omega arith; digits_len = omega arith; digits_at = locator_values_at _ })
 
 pub returns : goal.returns
 unfolding locator_values locator_with_number locator_of locator_radices
